@@ -1,0 +1,4 @@
+pub mod BitLaws
+pub mod FrameLaws
+pub mod LevelLaws
+pub mod Made

@@ -1,0 +1,5 @@
+pub mod Lattices
+pub mod Numbers
+pub mod Touches
+pub mod Levels
+pub mod FrameSets

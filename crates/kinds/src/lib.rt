@@ -1,0 +1,23 @@
+mod frames;
+mod kind;
+mod level;
+mod touch;
+mod values;
+
+pub use frames::FramesKind;
+pub use frames::FramesWritten;
+pub use kind::Kind;
+pub use kind::WrittenKind;
+pub use level::LevelKind;
+pub use level::LevelWritten;
+pub use touch::TouchKind;
+pub use touch::TouchWritten;
+pub use values::Frames;
+pub use values::FramesDebug;
+pub use values::FramesPartialEq;
+pub use values::Level;
+pub use values::LevelDebug;
+pub use values::LevelPartialEq;
+pub use values::Touch;
+pub use values::TouchDebug;
+pub use values::TouchPartialEq;

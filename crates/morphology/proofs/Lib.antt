@@ -1,0 +1,10 @@
+pub mod Adjoints
+pub mod Adjunction
+pub mod HistoryLaws
+pub mod Joins
+pub mod Listed
+pub mod Orders
+pub mod Passing
+pub mod Reaches
+pub mod Settling
+pub mod Turns

@@ -1,0 +1,26 @@
+mod admission;
+mod cleaning;
+mod dilation;
+mod erosion;
+mod filling;
+mod measures;
+mod promises;
+mod running;
+mod words;
+
+pub use cleaning::close;
+pub use cleaning::open;
+pub use dilation::dilate;
+pub use erosion::erode;
+pub use filling::fill;
+pub use measures::area;
+pub use promises::histories_hold;
+pub use running::run;
+pub use words::Move;
+pub use words::MoveTryFrom;
+pub use words::Record;
+pub use words::RecordDebug;
+pub use words::RecordPartialEq;
+pub use words::Refusal;
+pub use words::RefusalDebug;
+pub use words::RefusalPartialEq;

@@ -1,0 +1,84 @@
+ghost use mathlib.Core.Path.{_≡_};
+ghost use lib.ListN.{length};
+ghost use Rattle.morphology.specs.Histories.{answer as answer-to, answer-number, after, memory-after, end, numbered-call};
+ghost use Rattle.morphology.specs.Statements.{Histories-hold};
+ghost use Rattle.morphology.specs.Runs.{call-of, calls, noted, ran, memory-end};
+use crate::cleaning::close;
+use crate::cleaning::open;
+use crate::dilation::dilate;
+use crate::erosion::erode;
+use crate::measures::area;
+use crate::words::Move;
+use crate::words::MoveTryFrom;
+use crate::words::Record;
+use crate::words::Refusal;
+use kinds::Kind;
+use plates::Plate;
+
+// Makes the move of that number, or refuses it.
+fn make_move<P: Plate, K: Kind>(
+    plate: &P,
+    number: u8,
+    element: usize,
+    picture: &mut [K],
+    work: &mut [K],
+) -> Result<(), Refusal>
+    ensures answer { λ r. ⌜ r ≡ answer-to (P·Plate .meaning (now (plate .entry))) (length (now (picture .entry))) (numbered-call number element (length (now (work .entry)))) ⌝ }
+    ensures picture { λ _. ⌜ now (picture .exit) ≡ after (K·Kind .values) (P·Plate .meaning (now (plate .entry))) (numbered-call number element (length (now (work .entry)))) (now (picture .entry)) ⌝ }
+    ensures memory { λ _. ⌜ now (work .exit) ≡ memory-after (K·Kind .values) (P·Plate .meaning (now (plate .entry))) (numbered-call number element (length (now (work .entry)))) (now (picture .entry)) (now (work .entry)) ⌝ }
+{
+    match Move::try_from(number)? {
+        Move::Dilate => dilate(plate, element, picture, work),
+        Move::Erode => erode(plate, element, picture, work),
+        Move::Open => open(plate, element, picture, work),
+        Move::Close => close(plate, element, picture, work),
+    }
+}
+
+// What a record is told of its call: 0, or the number of the refusal.
+fn number_of(answer: Result<(), Refusal>) -> u8
+    ensures { λ r. ⌜ r ≡ answer-number answer ⌝ }
+{
+    match answer {
+        Ok(()) => 0,
+        Err(refusal) => refusal.number(),
+    }
+}
+
+// Works one record: makes its move, and writes the answer and the area into it.
+fn work_record<P: Plate, K: Kind>(plate: &P, picture: &mut [K], work: &mut [K], item: &mut Record)
+    ensures written { λ _. ⌜ now (item .exit) ≡ noted (K·Kind .values) (P·Plate .meaning (now (plate .entry))) (length (now (work .entry))) (now (picture .entry)) (now (item .entry)) ⌝ }
+    ensures picture { λ _. ⌜ now (picture .exit) ≡ after (K·Kind .values) (P·Plate .meaning (now (plate .entry))) (call-of (length (now (work .entry))) (now (item .entry))) (now (picture .entry)) ⌝ }
+    ensures memory { λ _. ⌜ now (work .exit) ≡ memory-after (K·Kind .values) (P·Plate .meaning (now (plate .entry))) (call-of (length (now (work .entry))) (now (item .entry))) (now (picture .entry)) (now (work .entry)) ⌝ }
+{
+    item.answer = number_of(make_move(plate, item.action, item.element, picture, work));
+    item.area = area(picture);
+}
+
+// Works the records in order, one after the other.
+fn work_records<P: Plate, K: Kind>(
+    plate: &P,
+    picture: &mut [K],
+    work: &mut [K],
+    records: &mut [Record],
+)
+    ensures records { λ _. ⌜ now (records .exit) ≡ ran (K·Kind .values) (P·Plate .meaning (now (plate .entry))) (length (now (work .entry))) (now (picture .entry)) (now (records .entry)) ⌝ }
+    ensures picture { λ _. ⌜ now (picture .exit) ≡ end (K·Kind .values) (P·Plate .meaning (now (plate .entry))) (calls (length (now (work .entry))) (now (records .entry))) (now (picture .entry)) ⌝ }
+    ensures memory { λ _. ⌜ now (work .exit) ≡ memory-end (K·Kind .values) (P·Plate .meaning (now (plate .entry))) (calls (length (now (work .entry))) (now (records .entry))) (now (picture .entry)) (now (work .entry)) ⌝ }
+    ensures histories { λ _. ⌜ Histories-hold (K·Kind .values) (P·Plate .meaning (now (plate .entry))) ⌝ }
+{
+    for item in records.iter_mut() {
+        work_record(plate, picture, work, item);
+    }
+}
+
+// Works the records in order on one picture with one working memory, and writes the answer and the area into each. A refused record
+// does not stop the list. What holds of every history of such calls is promised with it.
+pub fn run<P: Plate, K: Kind>(plate: &P, picture: &mut [K], work: &mut [K], records: &mut [Record])
+    ensures records { λ _. ⌜ now (records .exit) ≡ ran (K·Kind .values) (P·Plate .meaning (now (plate .entry))) (length (now (work .entry))) (now (picture .entry)) (now (records .entry)) ⌝ }
+    ensures picture { λ _. ⌜ now (picture .exit) ≡ end (K·Kind .values) (P·Plate .meaning (now (plate .entry))) (calls (length (now (work .entry))) (now (records .entry))) (now (picture .entry)) ⌝ }
+    ensures memory { λ _. ⌜ now (work .exit) ≡ memory-end (K·Kind .values) (P·Plate .meaning (now (plate .entry))) (calls (length (now (work .entry))) (now (records .entry))) (now (picture .entry)) (now (work .entry)) ⌝ }
+    ensures histories { λ _. ⌜ Histories-hold (K·Kind .values) (P·Plate .meaning (now (plate .entry))) ⌝ }
+{
+    work_records(plate, picture, work, records);
+}

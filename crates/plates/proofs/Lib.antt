@@ -1,0 +1,4 @@
+mod Entries
+mod Soundness
+mod Standing
+mod Within

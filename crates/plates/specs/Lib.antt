@@ -1,0 +1,6 @@
+pub mod Blocks
+pub mod Faults
+pub mod Links
+pub mod Lists
+pub mod Meanings
+pub mod Rows
