@@ -1,4 +1,4 @@
 mod Entries
 mod Soundness
 mod Standing
-mod Within
+pub mod Within

@@ -16,7 +16,8 @@ use Rattle.plates.specs.declared.neighbours.Neighbours.{Neighbours}
 use Rattle.plates.specs.Blocks.{block-meaning, led-to}
 use Rattle.plates.specs.Links.{links-of}
 use Rattle.plates.specs.Meanings.{Sound}
-use Rattle.plates.specs.Rows.{all-listed, below, all-below}
+use Rattle.plates.specs.Lists.{below}
+use Rattle.plates.specs.Rows.{all-listed, all-below}
 use Rattle.plates.proofs.Entries.{length-listed}
 use Rattle.plates.proofs.Within.{below-nth, all-below-getD}
 

@@ -9,7 +9,8 @@ use lib.ListN.{getD, set, replicate}
 use Rattle.std.proofs.shelf.Tests.{and-parts, and-from, ltb-true, lt-ltb}
 use Rattle.std.specs.shelf.Maps.{nth}
 use Rattle.std.specs.declared.option.Option.the-variants.{Some}
-use Rattle.plates.specs.Rows.{below, all-below}
+use Rattle.plates.specs.Lists.{below}
+use Rattle.plates.specs.Rows.{all-below}
 
 pub below-push : (n : ℕ) (xs : List ℕ) (x : ℕ) → below n xs ≡ true → x < n → below n (xs ++ x ∷ []) ≡ true
 below-push n [] x h lt = and-from (ltb x n) true (lt-ltb x n lt) refl

@@ -4,3 +4,4 @@ pub mod Links
 pub mod Lists
 pub mod Meanings
 pub mod Rows
+pub mod TwoWays

@@ -2,8 +2,8 @@
 use mathlib.Core.Bool.{Bool, true, _&&_}
 use mathlib.Core.List.{List, [], _∷_, map}
 use Prim.Native.Nat.{ℕ}
-use lib.Dec.{ltb}
 use lib.ListN.{take}
+use Rattle.plates.specs.Lists.{below}
 use Rattle.plates.specs.declared.neighbours.Neighbours.{Neighbours}
 
 -- the neighbours that a row holds, in order of entry
@@ -13,11 +13,6 @@ listed row = take (row .count) (row .blocks)
 -- the same for each row
 abbrev pub all-listed : List Neighbours → List (List ℕ)
 all-listed rows = map listed rows
-
--- whether every number of a list is below n
-abbrev pub below : ℕ → List ℕ → Bool
-below n [] = true
-below n (x ∷ xs) = ltb x n && below n xs
 
 -- whether every number of every list is below n
 abbrev pub all-below : ℕ → List (List ℕ) → Bool

@@ -6,6 +6,7 @@ mod neighbours;
 mod places;
 mod plate;
 mod rows;
+mod two_way;
 
 pub use blocks::BlockPlate;
 pub use faults::BlockFault;
@@ -16,3 +17,4 @@ pub use faults::LinkFaultDebug;
 pub use faults::LinkFaultPartialEq;
 pub use places::BlocksPlate;
 pub use plate::Plate;
+pub use two_way::TwoWayPlate;

@@ -1,3 +1,4 @@
+// Footprints, refusals and records on tread blocks.
 use kinds::*;
 use morphology::*;
 use plates::*;

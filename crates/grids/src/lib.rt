@@ -1,0 +1,24 @@
+mod extents;
+mod places;
+mod rows;
+mod shapes;
+mod stepping;
+mod vectors;
+
+pub use places::Movers;
+pub use places::MoversDebug;
+pub use places::MoversPartialEq;
+pub use places::Place;
+pub use rows::Row;
+pub use rows::RowDebug;
+pub use rows::RowFault;
+pub use rows::RowFaultDebug;
+pub use rows::RowFaultPartialEq;
+pub use rows::RowPartialEq;
+pub use shapes::Form;
+pub use shapes::FormDebug;
+pub use shapes::FormPartialEq;
+pub use shapes::Shape;
+pub use vectors::Vector;
+pub use vectors::VectorDebug;
+pub use vectors::VectorPartialEq;

@@ -1,0 +1,4 @@
+mod Distinct
+pub mod Killing
+mod LivingSteps
+mod Sources

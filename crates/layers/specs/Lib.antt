@@ -1,0 +1,3 @@
+pub mod Deaths
+pub mod Faults
+pub mod Layers

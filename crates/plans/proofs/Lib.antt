@@ -1,0 +1,4 @@
+pub mod Fairness
+pub mod GridLaws
+pub mod Reading
+pub mod VectorLists

@@ -1,0 +1,22 @@
+mod adding;
+mod calls;
+mod elements;
+mod faults;
+mod grid;
+mod making;
+mod modes;
+mod plan;
+mod plating;
+mod tables;
+
+pub use faults::NoPlan;
+pub use faults::NoPlanDebug;
+pub use faults::NoPlanPartialEq;
+pub use faults::PlanFault;
+pub use faults::PlanFaultDebug;
+pub use faults::PlanFaultPartialEq;
+pub use grid::Grid;
+pub use modes::Mode;
+pub use plan::Plan;
+pub use plating::GridPlate;
+pub use plating::GridTwoWay;
