@@ -1,4 +1,5 @@
 -- Calls of the moves, what they answer and what they leave; histories, which are calls one after the other. Assumes nothing.
+use mathlib.Core.Path.{_≡_}
 use mathlib.Core.Bool.{Bool, cond}
 use mathlib.Core.List.{List, [], _∷_}
 use Prim.Native.Nat.{ℕ, zero, suc}
@@ -55,10 +56,6 @@ pub record Call : Type 0 where
 
 abbrev pub numbered-call : ℕ → ℕ → ℕ → Call
 numbered-call n e memory = record { move = n; element = e; memory = memory }
-
--- the call of a move by its name
-abbrev pub call : Move → ℕ → ℕ → Call
-call v e memory = numbered-call (move-number v) e memory
 
 -- a condition that is to hold, the refusal where it does not, and the answer where it does
 abbrev pub must : Bool → Refusal → Result (Unit {0}) Refusal → Result (Unit {0}) Refusal
@@ -135,3 +132,9 @@ module _ {V : Type 0} (k : Values V) (m : Meaning) where
   abbrev pub answers : List Call → List V → List (Result (Unit {0}) Refusal)
   answers [] a = []
   answers (c ∷ cs) a = answer m (length a) c ∷ answers cs (after c a)
+
+  -- What a call of the move with number n by the element e does: its answer r, the picture b after a, the working memory v after w.
+  pub record Called (n e : ℕ) (r : Result (Unit {0}) Refusal) (a b w v : List V) : Type 0 where
+    pub answers : r ≡ answer m (length a) (numbered-call n e (length w))
+    pub leaves : b ≡ after (numbered-call n e (length w)) a
+    pub keeps : v ≡ memory-after (numbered-call n e (length w)) a w

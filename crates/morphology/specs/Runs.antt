@@ -1,11 +1,12 @@
 -- A run: records worked one after the other on one picture with one working memory. Assumes nothing.
+use mathlib.Core.Path.{_≡_}
 use mathlib.Core.List.{List, [], _∷_, map}
 use Prim.Native.Nat.{ℕ}
 use lib.ListN.{length}
 use Rattle.kinds.specs.Lattices.{Values}
 use Rattle.plates.specs.Meanings.{Meaning}
 use Rattle.morphology.specs.Pictures.{area}
-use Rattle.morphology.specs.Histories.{Call, numbered-call, answer, answer-number, after, memory-after}
+use Rattle.morphology.specs.Histories.{Call, numbered-call, answer, answer-number, after, memory-after, end}
 use Rattle.morphology.specs.declared.words.Record.{Record}
 
 -- the calls that records ask for, with a working memory of that length
@@ -34,3 +35,9 @@ module _ {V : Type 0} (k : Values V) (m : Meaning) where
   abbrev pub memory-end : List Call → List V → List V → List V
   memory-end [] a w = w
   memory-end (c ∷ cs) a w = memory-end cs (after k m c a) (memory-after k m c a w)
+
+  -- What a run does: the records rs after the records qs, the picture b after a, the working memory v after w.
+  pub record Ran (qs rs : List Record) (a b w v : List V) : Type 0 where
+    pub writes : rs ≡ ran (length w) a qs
+    pub leaves : b ≡ end k m (calls (length w) qs) a
+    pub keeps : v ≡ memory-end (calls (length w) qs) a w

@@ -1,6 +1,4 @@
-ghost use mathlib.Core.Path.{_≡_};
-ghost use lib.ListN.{length};
-ghost use Rattle.morphology.specs.Histories.{answer, after, memory-after, call};
+ghost use Rattle.morphology.specs.Histories.{Called, move-number};
 ghost use Rattle.morphology.specs.declared.words.Move.the-variants.{Open, Close};
 use crate::admission::admit;
 use crate::dilation::scatter;
@@ -17,9 +15,7 @@ pub fn open<P: Plate, K: Kind>(
     picture: &mut [K],
     work: &mut [K],
 ) -> Result<(), Refusal>
-    ensures answer { λ r. ⌜ r ≡ answer (P·Plate .meaning (now (plate .entry))) (length (now (picture .entry))) (call Open element (length (now (work .entry)))) ⌝ }
-    ensures picture { λ _. ⌜ now (picture .exit) ≡ after (K·Kind .values) (P·Plate .meaning (now (plate .entry))) (call Open element (length (now (work .entry)))) (now (picture .entry)) ⌝ }
-    ensures memory { λ _. ⌜ now (work .exit) ≡ memory-after (K·Kind .values) (P·Plate .meaning (now (plate .entry))) (call Open element (length (now (work .entry)))) (now (picture .entry)) (now (work .entry)) ⌝ }
+    ensures { λ r. ⌜ Called (K·Kind .values) (P·Plate .meaning (now (plate .entry))) (move-number Open) element r (now (picture .entry)) (now (picture .exit)) (now (work .entry)) (now (work .exit)) ⌝ }
 {
     admit(plate, element, picture.len(), work.len())?;
     gather(plate, element, picture, work);
@@ -35,9 +31,7 @@ pub fn close<P: Plate, K: Kind>(
     picture: &mut [K],
     work: &mut [K],
 ) -> Result<(), Refusal>
-    ensures answer { λ r. ⌜ r ≡ answer (P·Plate .meaning (now (plate .entry))) (length (now (picture .entry))) (call Close element (length (now (work .entry)))) ⌝ }
-    ensures picture { λ _. ⌜ now (picture .exit) ≡ after (K·Kind .values) (P·Plate .meaning (now (plate .entry))) (call Close element (length (now (work .entry)))) (now (picture .entry)) ⌝ }
-    ensures memory { λ _. ⌜ now (work .exit) ≡ memory-after (K·Kind .values) (P·Plate .meaning (now (plate .entry))) (call Close element (length (now (work .entry)))) (now (picture .entry)) (now (work .entry)) ⌝ }
+    ensures { λ r. ⌜ Called (K·Kind .values) (P·Plate .meaning (now (plate .entry))) (move-number Close) element r (now (picture .entry)) (now (picture .exit)) (now (work .entry)) (now (work .exit)) ⌝ }
 {
     admit(plate, element, picture.len(), work.len())?;
     scatter(plate, element, picture, work);

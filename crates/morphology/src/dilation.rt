@@ -1,7 +1,7 @@
 ghost use mathlib.Core.Path.{_≡_};
 ghost use Prim.Native.Nat.{_<_};
 ghost use lib.ListN.{length};
-ghost use Rattle.morphology.specs.Histories.{answer, after, memory-after, call};
+ghost use Rattle.morphology.specs.Histories.{Called, move-number};
 ghost use Rattle.morphology.specs.Moves.{reached, dilated};
 ghost use Rattle.morphology.specs.Passes.{Within, joined-into, Spread};
 ghost use Rattle.morphology.specs.Pictures.{at};
@@ -69,9 +69,7 @@ pub fn dilate<P: Plate, K: Kind>(
     picture: &mut [K],
     work: &mut [K],
 ) -> Result<(), Refusal>
-    ensures answer { λ r. ⌜ r ≡ answer (P·Plate .meaning (now (plate .entry))) (length (now (picture .entry))) (call Dilate element (length (now (work .entry)))) ⌝ }
-    ensures picture { λ _. ⌜ now (picture .exit) ≡ after (K·Kind .values) (P·Plate .meaning (now (plate .entry))) (call Dilate element (length (now (work .entry)))) (now (picture .entry)) ⌝ }
-    ensures memory { λ _. ⌜ now (work .exit) ≡ memory-after (K·Kind .values) (P·Plate .meaning (now (plate .entry))) (call Dilate element (length (now (work .entry)))) (now (picture .entry)) (now (work .entry)) ⌝ }
+    ensures { λ r. ⌜ Called (K·Kind .values) (P·Plate .meaning (now (plate .entry))) (move-number Dilate) element r (now (picture .entry)) (now (picture .exit)) (now (work .entry)) (now (work .exit)) ⌝ }
 {
     admit(plate, element, picture.len(), work.len())?;
     scatter(plate, element, picture, work);

@@ -1,6 +1,6 @@
 ghost use mathlib.Core.Path.{_≡_};
 ghost use lib.ListN.{length};
-ghost use Rattle.morphology.specs.Histories.{answer, after, memory-after, call};
+ghost use Rattle.morphology.specs.Histories.{Called, move-number};
 ghost use Rattle.morphology.specs.Moves.{eroded-at, eroded};
 ghost use Rattle.morphology.specs.Passes.{Within, met-with};
 ghost use Rattle.morphology.specs.declared.words.Move.the-variants.{Erode};
@@ -52,9 +52,7 @@ pub fn erode<P: Plate, K: Kind>(
     picture: &mut [K],
     work: &mut [K],
 ) -> Result<(), Refusal>
-    ensures answer { λ r. ⌜ r ≡ answer (P·Plate .meaning (now (plate .entry))) (length (now (picture .entry))) (call Erode element (length (now (work .entry)))) ⌝ }
-    ensures picture { λ _. ⌜ now (picture .exit) ≡ after (K·Kind .values) (P·Plate .meaning (now (plate .entry))) (call Erode element (length (now (work .entry)))) (now (picture .entry)) ⌝ }
-    ensures memory { λ _. ⌜ now (work .exit) ≡ memory-after (K·Kind .values) (P·Plate .meaning (now (plate .entry))) (call Erode element (length (now (work .entry)))) (now (picture .entry)) (now (work .entry)) ⌝ }
+    ensures { λ r. ⌜ Called (K·Kind .values) (P·Plate .meaning (now (plate .entry))) (move-number Erode) element r (now (picture .entry)) (now (picture .exit)) (now (work .entry)) (now (work .exit)) ⌝ }
 {
     admit(plate, element, picture.len(), work.len())?;
     gather(plate, element, picture, work);

@@ -1,8 +1,8 @@
 ghost use mathlib.Core.Path.{_≡_};
 ghost use lib.ListN.{length};
-ghost use Rattle.morphology.specs.Histories.{answer as answer-to, answer-number, after, memory-after, end, numbered-call};
+ghost use Rattle.morphology.specs.Histories.{Called, answer-number, after, memory-after};
 ghost use Rattle.morphology.specs.Statements.{Histories-hold};
-ghost use Rattle.morphology.specs.Runs.{call-of, calls, noted, ran, memory-end};
+ghost use Rattle.morphology.specs.Runs.{Ran, call-of, noted};
 use crate::cleaning::close;
 use crate::cleaning::open;
 use crate::dilation::dilate;
@@ -23,9 +23,7 @@ fn make_move<P: Plate, K: Kind>(
     picture: &mut [K],
     work: &mut [K],
 ) -> Result<(), Refusal>
-    ensures answer { λ r. ⌜ r ≡ answer-to (P·Plate .meaning (now (plate .entry))) (length (now (picture .entry))) (numbered-call number element (length (now (work .entry)))) ⌝ }
-    ensures picture { λ _. ⌜ now (picture .exit) ≡ after (K·Kind .values) (P·Plate .meaning (now (plate .entry))) (numbered-call number element (length (now (work .entry)))) (now (picture .entry)) ⌝ }
-    ensures memory { λ _. ⌜ now (work .exit) ≡ memory-after (K·Kind .values) (P·Plate .meaning (now (plate .entry))) (numbered-call number element (length (now (work .entry)))) (now (picture .entry)) (now (work .entry)) ⌝ }
+    ensures { λ r. ⌜ Called (K·Kind .values) (P·Plate .meaning (now (plate .entry))) number element r (now (picture .entry)) (now (picture .exit)) (now (work .entry)) (now (work .exit)) ⌝ }
 {
     match Move::try_from(number)? {
         Move::Dilate => dilate(plate, element, picture, work),
@@ -62,9 +60,7 @@ fn work_records<P: Plate, K: Kind>(
     work: &mut [K],
     records: &mut [Record],
 )
-    ensures records { λ _. ⌜ now (records .exit) ≡ ran (K·Kind .values) (P·Plate .meaning (now (plate .entry))) (length (now (work .entry))) (now (picture .entry)) (now (records .entry)) ⌝ }
-    ensures picture { λ _. ⌜ now (picture .exit) ≡ end (K·Kind .values) (P·Plate .meaning (now (plate .entry))) (calls (length (now (work .entry))) (now (records .entry))) (now (picture .entry)) ⌝ }
-    ensures memory { λ _. ⌜ now (work .exit) ≡ memory-end (K·Kind .values) (P·Plate .meaning (now (plate .entry))) (calls (length (now (work .entry))) (now (records .entry))) (now (picture .entry)) (now (work .entry)) ⌝ }
+    ensures ran { λ _. ⌜ Ran (K·Kind .values) (P·Plate .meaning (now (plate .entry))) (now (records .entry)) (now (records .exit)) (now (picture .entry)) (now (picture .exit)) (now (work .entry)) (now (work .exit)) ⌝ }
     ensures histories { λ _. ⌜ Histories-hold (K·Kind .values) (P·Plate .meaning (now (plate .entry))) ⌝ }
 {
     for item in records.iter_mut() {
@@ -75,9 +71,7 @@ fn work_records<P: Plate, K: Kind>(
 // Works the records in order on one picture with one working memory, and writes the answer and the area into each. A refused record
 // does not stop the list. What holds of every history of such calls is promised with it.
 pub fn run<P: Plate, K: Kind>(plate: &P, picture: &mut [K], work: &mut [K], records: &mut [Record])
-    ensures records { λ _. ⌜ now (records .exit) ≡ ran (K·Kind .values) (P·Plate .meaning (now (plate .entry))) (length (now (work .entry))) (now (picture .entry)) (now (records .entry)) ⌝ }
-    ensures picture { λ _. ⌜ now (picture .exit) ≡ end (K·Kind .values) (P·Plate .meaning (now (plate .entry))) (calls (length (now (work .entry))) (now (records .entry))) (now (picture .entry)) ⌝ }
-    ensures memory { λ _. ⌜ now (work .exit) ≡ memory-end (K·Kind .values) (P·Plate .meaning (now (plate .entry))) (calls (length (now (work .entry))) (now (records .entry))) (now (picture .entry)) (now (work .entry)) ⌝ }
+    ensures ran { λ _. ⌜ Ran (K·Kind .values) (P·Plate .meaning (now (plate .entry))) (now (records .entry)) (now (records .exit)) (now (picture .entry)) (now (picture .exit)) (now (work .entry)) (now (work .exit)) ⌝ }
     ensures histories { λ _. ⌜ Histories-hold (K·Kind .values) (P·Plate .meaning (now (plate .entry))) ⌝ }
 {
     work_records(plate, picture, work, records);

@@ -40,8 +40,10 @@ returns g c =
     let i = c .loop-item .item-index in
     let past : length rs ≤ i = omega arith in
     record {
-      records = sym (take-all i rs past) ∙ sym (append-nil (take i rs)) ∙ ap (λ x. take i rs ++ x) (sym (at-drop-all (ran k m n a) rs i past)) ∙ c .loop-item .inv .0;
-      picture = sym (at-drop-all (λ xs. end k m (calls n xs) a) rs i past) ∙ c .loop-item .inv .1;
-      memory = sym (at-drop-all (λ xs. memory-end k m (calls n xs) a (c .loop-item .work)) rs i past) ∙ c .loop-item .inv .2;
+      ran = record {
+        writes = sym (take-all i rs past) ∙ sym (append-nil (take i rs)) ∙ ap (λ x. take i rs ++ x) (sym (at-drop-all (ran k m n a) rs i past)) ∙ c .loop-item .inv .0;
+        leaves = sym (at-drop-all (λ xs. end k m (calls n xs) a) rs i past) ∙ c .loop-item .inv .1;
+        keeps = sym (at-drop-all (λ xs. memory-end k m (calls n xs) a (c .loop-item .work)) rs i past) ∙ c .loop-item .inv .2;
+      };
       histories = histories-hold k (g .K·Kind·met .lawful) m (g .P·Plate·met .sound (c .args .plate .now));
     }
