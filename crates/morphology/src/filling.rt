@@ -6,7 +6,7 @@ use kinds::Kind;
 pub fn fill<K: Kind>(picture: &mut [K], value: K)
     ensures { λ _. ⌜ now (picture .exit) ≡ replicate (length (now (picture .entry))) value ⌝ }
 {
-    for cell in picture.iter_mut() {
-        *cell = value;
+    for cell in 0..picture.len() {
+        picture[cell] = value;
     }
 }

@@ -53,26 +53,13 @@ fn work_record<P: Plate, K: Kind>(plate: &P, picture: &mut [K], work: &mut [K], 
     item.area = area(picture);
 }
 
-// Works the records in order, one after the other.
-fn work_records<P: Plate, K: Kind>(
-    plate: &P,
-    picture: &mut [K],
-    work: &mut [K],
-    records: &mut [Record],
-)
-    ensures ran { λ _. ⌜ Ran (K·Kind .values) (P·Plate .meaning (now (plate .entry))) (now (records .entry)) (now (records .exit)) (now (picture .entry)) (now (picture .exit)) (now (work .entry)) (now (work .exit)) ⌝ }
-    ensures histories { λ _. ⌜ Histories-hold (K·Kind .values) (P·Plate .meaning (now (plate .entry))) ⌝ }
-{
-    for item in records.iter_mut() {
-        work_record(plate, picture, work, item);
-    }
-}
-
 // Works the records in order on one picture with one working memory, and writes the answer and the area into each. A refused record
 // does not stop the list. What holds of every history of such calls is promised with it.
 pub fn run<P: Plate, K: Kind>(plate: &P, picture: &mut [K], work: &mut [K], records: &mut [Record])
     ensures ran { λ _. ⌜ Ran (K·Kind .values) (P·Plate .meaning (now (plate .entry))) (now (records .entry)) (now (records .exit)) (now (picture .entry)) (now (picture .exit)) (now (work .entry)) (now (work .exit)) ⌝ }
     ensures histories { λ _. ⌜ Histories-hold (K·Kind .values) (P·Plate .meaning (now (plate .entry))) ⌝ }
 {
-    work_records(plate, picture, work, records);
+    for i in 0..records.len() {
+        work_record(plate, picture, work, &mut records[i]);
+    }
 }

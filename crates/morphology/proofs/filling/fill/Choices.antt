@@ -3,4 +3,4 @@ use lib.ListN.{replicate, take}
 use Rattle.morphology.proofs.filling.fill.Given as given
 
 abbrev pub Inv-loop-cell : given.InvT-loop-cell
-Inv-loop-cell g l = take (l .cell-index) (l .picture) ≡ replicate (l .cell-index) (l .value)
+Inv-loop-cell g l = take (l .cell) (l .picture) ≡ replicate (l .cell) (l .value)
