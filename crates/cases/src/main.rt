@@ -1,3 +1,5 @@
+#![tactic(auto)]
+
 // Compares the report on each file of a table with the one expected, which an independent implementation gave.
 use reports::report;
 use std::fs;

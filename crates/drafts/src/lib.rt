@@ -1,3 +1,5 @@
+#![tactic(auto)]
+
 mod drafts;
 mod following;
 mod looping;

@@ -1,3 +1,5 @@
+#![tactic(auto)]
+
 // Lines, reading and writing, run on files that were written by hand.
 #[cfg(test)]
 mod line_tests;

@@ -1,3 +1,5 @@
+#![tactic(auto)]
+
 mod extents;
 mod places;
 mod rows;

@@ -1,3 +1,5 @@
+#![tactic(auto)]
+
 // Reads a job from standard input and prints the report on it. Ends with status 0 after a report, and with status 1 after STOP or
 // where reading, printing or memory failed.
 use anyhow::anyhow;

@@ -1,3 +1,5 @@
+#![tactic(auto)]
+
 mod frames;
 mod kind;
 mod level;

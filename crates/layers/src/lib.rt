@@ -1,3 +1,5 @@
+#![tactic(auto)]
+
 mod dead;
 mod deaths;
 mod faults;

@@ -1,3 +1,5 @@
+#![tactic(auto)]
+
 mod admission;
 mod cleaning;
 mod dilation;

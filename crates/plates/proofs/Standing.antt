@@ -13,5 +13,5 @@ among_decides : (b : ℕ) (xs : List ℕ) → Decides (among b xs) (Has xs b)
 among_decides b xs = Decides-by_or (λ x. eqb x b) (λ x. x ≡ b) (among b) (λ x. Decides-eqb x b) refl (λ x ys. cond_or (eqb x b) (among b ys)) xs
 
 -- what `contains` answers
-pub among_from_contains : (b : ℕ) (xs : List ℕ) (r : Bool) → IsAnyAnswer (λ x t. Decides t (x ≡ b)) xs r → r ≡ among b xs
+pub among_from_contains : (b : ℕ) (xs : List ℕ) (r : Bool) → IsAnyAnswer (λ y t. eqb y b ≡ t) xs r → r ≡ among b xs
 among_from_contains b xs r h = same_from_decides r (among b xs) (contains_decides eqb Decides-eqb xs b r h) (among_decides b xs)

@@ -1,3 +1,5 @@
+#![tactic(auto)]
+
 mod reporting;
 mod telling;
 mod texts;

@@ -1,3 +1,5 @@
+#![tactic(auto)]
+
 // Cleans a footprint on a small triangular grid by a list of moves, and prints what became of each move and of the footprint.
 use anyhow::anyhow;
 use kinds::{Kind, Touch};

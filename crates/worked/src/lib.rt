@@ -1,3 +1,5 @@
+#![tactic(auto)]
+
 ghost use Rattle.worked.specs.Footprints.{Worked};
 
 #[cfg(test)]

@@ -1,3 +1,5 @@
+#![tactic(auto)]
+
 mod counting;
 mod listings;
 mod putting;

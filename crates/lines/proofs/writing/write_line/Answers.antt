@@ -28,11 +28,11 @@ unfolding line_bytes
 returns c =
     let l = c.args.line in
     six c.args.out.now (letters l.word) (field_bytes l.one) (field_bytes l.two) (field_bytes l.three) (field_bytes l.four)
-    c.put.new.out c.put-2.new.out c.put-3.new.out c.put-4.new.out c.put-5.new.out c.put-feed.new.out c.args.at
+    c.put.new.out c.put-2.new.out c.put-3.new.out c.put-4.new.out c.put-5.new.out c.put_feed.new.out c.args.at
     (length_letters l.word) (length_field l.one) (length_field l.two) (length_field l.three) (length_field l.four) (omega arith)
     (c.put.ensures ∙ ap (λ x. paste c.args.out.now c.args.at x (length x)) c.bytes.ensures)
-    (c.put-2.ensures ∙ ap (λ r. paste c.put.new.out (c.args.at + 4) r.0 (length r.0)) c.all-columns.ensures)
-    (c.put-3.ensures ∙ ap (λ r. paste c.put-2.new.out (c.args.at + 10) r.1 (length r.1)) c.all-columns.ensures)
-    (c.put-4.ensures ∙ ap (λ r. paste c.put-3.new.out (c.args.at + 16) r.2 (length r.2)) c.all-columns.ensures)
-    (c.put-5.ensures ∙ ap (λ r. paste c.put-4.new.out (c.args.at + 22) r.3 (length r.3)) c.all-columns.ensures)
-    c.put-feed.ensures
+    (c.put-2.ensures ∙ ap (λ r. paste c.put.new.out (c.args.at + 4) r.0 (length r.0)) c.all_columns.ensures)
+    (c.put-3.ensures ∙ ap (λ r. paste c.put-2.new.out (c.args.at + 10) r.1 (length r.1)) c.all_columns.ensures)
+    (c.put-4.ensures ∙ ap (λ r. paste c.put-3.new.out (c.args.at + 16) r.2 (length r.2)) c.all_columns.ensures)
+    (c.put-5.ensures ∙ ap (λ r. paste c.put-4.new.out (c.args.at + 22) r.3 (length r.3)) c.all_columns.ensures)
+    c.put_feed.ensures

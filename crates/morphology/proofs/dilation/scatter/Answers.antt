@@ -19,7 +19,7 @@ loop-cell-preserved g c x h =
     let a = c.args.picture.now in
     let i = c.loop-cell.cell in
     let lt : x < length c.loop-cell.work = omega arith in
-    c.spread-cell.ensures x lt
+    c.spread_cell.ensures x lt
     ∙ ap (λ u. cond (among x (reached m c.args.element i)) (k.join u (at k a i)) u) (c.loop-cell.invariant x lt)
     ∙ joined_more_cells k m c.args.element a i x
 

@@ -15,12 +15,12 @@ loop-i-preserved g c =
     let w = c.loop-i.work in
     let rs = c.loop-i.records in
     let i = c.loop-i.i in
-    let last = c.work-record.new in
+    let last = c.work_record.new in
     let lt : i < length rs = omega arith in
     let size : length w ≡ n = omega arith in
-    let written : last.item ≡ noted k m n a (get_or rs i blank) = subst (λ l. last.item ≡ noted k m l a (get_or rs i blank)) size c.work-record.ensures.written in
-    let picture : last.picture ≡ after k m (call_of n (get_or rs i blank)) a = subst (λ l. last.picture ≡ after k m (call_of l (get_or rs i blank)) a) size c.work-record.ensures.picture in
-    let memory : last.work ≡ memory_after k m (call_of n (get_or rs i blank)) a w = subst (λ l. last.work ≡ memory_after k m (call_of l (get_or rs i blank)) a w) size c.work-record.ensures.memory in (
+    let written : last.item ≡ noted k m n a (get_or rs i blank) = subst (λ l. last.item ≡ noted k m l a (get_or rs i blank)) size c.work_record.ensures.written in
+    let picture : last.picture ≡ after k m (call_of n (get_or rs i blank)) a = subst (λ l. last.picture ≡ after k m (call_of l (get_or rs i blank)) a) size c.work_record.ensures.picture in
+    let memory : last.work ≡ memory_after k m (call_of n (get_or rs i blank)) a w = subst (λ l. last.work ≡ memory_after k m (call_of l (get_or rs i blank)) a w) size c.work_record.ensures.memory in (
       ran_turn k m n a last.picture w last.work rs i last.item lt written picture memory ∙ c.loop-i.invariant.0,
       end_turn k m n a last.picture w last.work rs i last.item lt written picture memory ∙ c.loop-i.invariant.1,
       memory_turn k m n a last.picture w last.work rs i last.item lt written picture memory ∙ c.loop-i.invariant.2,

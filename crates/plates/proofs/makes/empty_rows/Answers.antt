@@ -8,4 +8,4 @@ pub returns : goal.returns
 returns c =
     IfOk-weaker c.vec.result _ _
     (λ rows copies. ap all_listed (copies (λ y same. same)) ∙ map-replicate listed c.args.count c.none.result ∙ ap (replicate c.args.count) c.none.ensures)
-    c.vec.ensures.exact
+    c.vec.ensures.items_if_clones_equal

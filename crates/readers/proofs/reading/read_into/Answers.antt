@@ -12,8 +12,8 @@ returns g c =
     let k = g.K.Kind.values in
     let w = g.K.WrittenKind.written in
     let fixed = job_and_file k w g.met.K.Kind.lawful g.met.K.WrittenKind.numbered in
-    let told = c.in-ok-reader.ensures in
-    let r = c.in-ok-reader.reader in
+    let told = c.in_ok-reader.ensures in
+    let r = c.in_ok-reader.reader in
     let size : length c.args.picture.now ≡ cells_in (design_of r.plan) = sym told.1 ∙ sym r.sized in
     record {
       job = finished k (draft_of r);

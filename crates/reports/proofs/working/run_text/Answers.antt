@@ -4,6 +4,6 @@ use Rattle.reports.proofs.working.run_text.Goals as goal
 
 pub returns : goal.returns
 returns g c =
-    let lent = c.as-mut-slice.ensures in
-    let was = c.in-ok-text.text.bytes.items in
-    refilled _ c.put-run.new.out was (sym lent.len ∙ ap length lent.value) (c.put-run.auto.out ∙ ap length lent.value) ∙ c.put-run.ensures
+    let lent = c.as_mut_slice.ensures in
+    let was = c.in_ok-text.text.bytes.items in
+    refilled _ c.put_run.new.out was (sym lent.len ∙ ap length lent.value) (c.put_run.auto.out ∙ ap length lent.value) ∙ c.put_run.ensures

@@ -29,5 +29,5 @@ returns g c =
     let w = g.K.WrittenKind.written in
     let d = design_of c.args.plan.now in
     let rs = c.args.records.now in
-    let all : length (job_lines k w (job_of d c.args.picture.now rs)) ≡ c.lines-before-moves.result + length rs = omega (arith, with-moves k w d c.args.picture.now rs, c.lines-before-moves.ensures.count) in
+    let all : length (job_lines k w (job_of d c.args.picture.now rs)) ≡ c.lines_before_moves.result + length rs = omega (arith, with-moves k w d c.args.picture.now rs, c.lines_before_moves.ensures.count) in
     grind (arith, nat_tests)

@@ -7,16 +7,16 @@ use Rattle.writers.proofs.LineCounts.{job_count}
 use Rattle.writers.proofs.PlanLimits.{few_dead, few_cells}
 use Rattle.writers.proofs.counting.lines_before_moves.Goals as goal
 
-pub overflow-add-result-3 : goal.overflow-add-result-3
-overflow-add-result-3 g c =
+pub overflow_add-result-3 : goal.overflow_add-result-3
+overflow_add-result-3 g c =
     let p = c.args.plan.now in
-    omega (arith, c.requires, c.elements_lines.ensures.few, ap length c.dead-cells.ensures, few_dead p, c.area.ensures, count_by-le-length (not_least g.K.Kind.values) c.args.picture.now, few_cells p)
+    omega (arith, c.requires, c.elements_lines.ensures.few, ap length c.dead_cells.ensures, few_dead p, c.area.ensures, count_by-le-length (not_least g.K.Kind.values) c.args.picture.now, few_cells p)
 
 pub returns : goal.returns
 returns g c =
     let p = c.args.plan.now in
     let k = g.K.Kind.values in
-    let dead = ap length c.dead-cells.ensures in
+    let dead = ap length c.dead_cells.ensures in
     record {
       count = omega (arith, c.elements_lines.ensures.count, dead, c.area.ensures, job_count k g.K.WrittenKind.written (job_of (design_of p) c.args.picture.now []));
       few = omega (arith, c.requires, c.elements_lines.ensures.few, dead, few_dead p, c.area.ensures, count_by-le-length (not_least k) c.args.picture.now, few_cells p);

@@ -4,8 +4,8 @@ use Rattle.jobs.specs.Entries.{listed}
 use Rattle.writers.proofs.Placing.{same_more, same_all, listed_more, listed_all}
 use Rattle.writers.proofs.putting.put_all.Goals as goal
 
-pub put-some-end-requires : goal.put-some-end-requires
-put-some-end-requires g c =
+pub put_some-end-requires : goal.put_some-end-requires
+put_some-end-requires g c =
     let f = g.L.Listing.line c.args.listing.now in
     let i = c.loop-i.i in
     let xs = c.args.items.now in
@@ -21,7 +21,7 @@ loop-i-preserved g c =
     let rest = listed f (i + 1) (drop (i + 1) xs) in
     let left : listed f i (drop i xs) ≡ option_to_list c.line.result ++ rest = listed_more f xs i _ _ c.loop-i-test.true c.index-items-i.is c.line.ensures in
     let within : c.loop-i.end ≤ length c.loop-i.out = omega (arith, c.requires, c.loop-i.invariant.places) in
-    same_more c.loop-i.invariant left within (record { end_is = c.put-some-end.ensures.end; bytes_are = c.put-some-end.ensures.bytes })
+    same_more c.loop-i.invariant left within (record { end_is = c.put_some-end.ensures.end; bytes_are = c.put_some-end.ensures.bytes })
 
 pub returns : goal.returns
 returns g c =

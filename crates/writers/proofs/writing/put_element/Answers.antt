@@ -10,30 +10,30 @@ use Rattle.writers.proofs.writing.put_element.Goals as goal
 side-lines : {s t : ℕ} {us vs : List Vector} → s ≡ t → us ≡ vs → listed (vect_entry s) 0 us ≡ listed (vect_entry t) 0 vs
 side-lines h is = ap₂ (λ s us. listed (vect_entry s) 0 us) h is
 
-pub put-all-at-requires : goal.put-all-at-requires
-put-all-at-requires c =
+pub put_all-at-requires : goal.put_all-at-requires
+put_all-at-requires c =
     let m = (design_of c.args.plan.now).drawing.mode in
     let l = get_or (design_of c.args.plan.now).drawing.elements c.args.element blank in
     let firsts : listed (vect_entry c.first_side.result) 0 c.vectors-firsts.result.now ≡ listed (vect_entry (first_side m)) 0 l.first = side-lines (c.first_side.ensures ∙ ap first_side c.mode.ensures) c.vectors-firsts.ensures in
-    omega (arith, c.requires, c.put-line-at.ensures.end, ap length firsts, length-append (listed (vect_entry (first_side m)) 0 l.first) (listed (vect_entry 2) 0 l.second))
+    omega (arith, c.requires, c.put_line-at.ensures.end, ap length firsts, length-append (listed (vect_entry (first_side m)) 0 l.first) (listed (vect_entry 2) 0 l.second))
 
-pub put-all-requires : goal.put-all-requires
-put-all-requires c =
+pub put_all-requires : goal.put_all-requires
+put_all-requires c =
     let m = (design_of c.args.plan.now).drawing.mode in
     let l = get_or (design_of c.args.plan.now).drawing.elements c.args.element blank in
     let firsts : listed (vect_entry c.first_side.result) 0 c.vectors-firsts.result.now ≡ listed (vect_entry (first_side m)) 0 l.first = side-lines (c.first_side.ensures ∙ ap first_side c.mode.ensures) c.vectors-firsts.ensures in
     let seconds = ap (listed (vect_entry 2) 0) c.vectors-seconds.ensures in
-    omega (arith, c.requires, c.put-line-at.ensures.end, c.put-all-at.ensures.end, ap length firsts, ap length seconds, length-append (listed (vect_entry (first_side m)) 0 l.first) (listed (vect_entry 2) 0 l.second))
+    omega (arith, c.requires, c.put_line-at.ensures.end, c.put_all-at.ensures.end, ap length firsts, ap length seconds, length-append (listed (vect_entry (first_side m)) 0 l.first) (listed (vect_entry 2) 0 l.second))
 
 pub returns : goal.returns
 returns c =
     let m = (design_of c.args.plan.now).drawing.mode in
     let l = get_or (design_of c.args.plan.now).drawing.elements c.args.element blank in
     let start : c.args.at ≤ length c.args.out.now = omega (arith, c.requires) in
-    let head : Put c.args.out.now c.args.at (elem_line c.args.element ∷ []) c.put-line-at.new.out c.put-line-at.result = put_as (record { end_is = c.put-line-at.ensures.end; bytes_are = c.put-line-at.ensures.bytes }) (ap (λ x. x ∷ []) c.one-number.ensures) in
-    let firsts : Put c.put-line-at.new.out c.put-line-at.result (listed (vect_entry (first_side m)) 0 l.first) c.put-all-at.new.out c.put-all-at.result =
-    put_as (record { end_is = c.put-all-at.ensures.end; bytes_are = c.put-all-at.ensures.bytes }) (side-lines (c.first_side.ensures ∙ ap first_side c.mode.ensures) c.vectors-firsts.ensures) in
-    let seconds : Put c.put-all-at.new.out c.put-all-at.result (listed (vect_entry 2) 0 l.second) c.put-all.new.out c.put-all.result =
-    put_as (record { end_is = c.put-all.ensures.end; bytes_are = c.put-all.ensures.bytes }) (ap (listed (vect_entry 2) 0) c.vectors-seconds.ensures) in
+    let head : Put c.args.out.now c.args.at (elem_line c.args.element ∷ []) c.put_line-at.new.out c.put_line-at.result = put_as (record { end_is = c.put_line-at.ensures.end; bytes_are = c.put_line-at.ensures.bytes }) (ap (λ x. x ∷ []) c.one_number.ensures) in
+    let firsts : Put c.put_line-at.new.out c.put_line-at.result (listed (vect_entry (first_side m)) 0 l.first) c.put_all-at.new.out c.put_all-at.result =
+    put_as (record { end_is = c.put_all-at.ensures.end; bytes_are = c.put_all-at.ensures.bytes }) (side-lines (c.first_side.ensures ∙ ap first_side c.mode.ensures) c.vectors-firsts.ensures) in
+    let seconds : Put c.put_all-at.new.out c.put_all-at.result (listed (vect_entry 2) 0 l.second) c.put_all.new.out c.put_all.result =
+    put_as (record { end_is = c.put_all.ensures.end; bytes_are = c.put_all.ensures.bytes }) (ap (listed (vect_entry 2) 0) c.vectors-seconds.ensures) in
     let all = put_both start (put_both start head firsts) seconds in
     record { end = all.end_is; bytes = all.bytes_are }

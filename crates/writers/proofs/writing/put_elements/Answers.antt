@@ -7,8 +7,8 @@ use Rattle.writers.proofs.LineCounts.{elements_more}
 use Rattle.writers.proofs.Placing.{same_more, same_all}
 use Rattle.writers.proofs.writing.put_elements.Goals as goal
 
-pub put-element-end-requires : goal.put-element-end-requires
-put-element-end-requires c =
+pub put_element-end-requires : goal.put_element-end-requires
+put_element-end-requires c =
     let d = (design_of c.args.plan.now).drawing in
     let i = c.loop-element.element in
     let lt : i < length d.elements = omega (arith, c.loop-element-test.true, c.elements-element-end.ensures) in
@@ -20,7 +20,7 @@ loop-element-preserved c =
     let i = c.loop-element.element in
     let lt : i < length d.elements = omega (arith, c.loop-element-test.true, c.elements-element-end.ensures) in
     let within : c.loop-element.end ≤ length c.loop-element.out = omega (arith, c.requires, c.loop-element.invariant.places) in
-    same_more {ls = element_lines d.mode i (get_or d.elements i blank)} c.loop-element.invariant (elements_more d.mode d.elements i lt) within (record { end_is = c.put-element-end.ensures.end; bytes_are = c.put-element-end.ensures.bytes })
+    same_more {ls = element_lines d.mode i (get_or d.elements i blank)} c.loop-element.invariant (elements_more d.mode d.elements i lt) within (record { end_is = c.put_element-end.ensures.end; bytes_are = c.put_element-end.ensures.bytes })
 
 pub returns : goal.returns
 returns c =

@@ -29,52 +29,52 @@ whole : {V : Type 0} (k : Values V) (w : Written V) (d : Design) (a : List V) (r
 whole k w d a rs =
     omega (arith, parts_count (plat_line w.code d.drawing) last_line (elements_lines d.drawing.mode 0 d.drawing.elements) (listed dead_entry 0 d.dead) (listed (cell_entry k w) 0 a) (listed move_entry 0 (map asked rs)), ap length (moves-listed 0 rs))
 
-pub put-elements-dead-requires : goal.put-elements-dead-requires
-put-elements-dead-requires g c =
+pub put_elements-dead-requires : goal.put_elements-dead-requires
+put_elements-dead-requires g c =
     let all = whole g.K.Kind.values g.K.WrittenKind.written (design_of c.args.plan.now) c.args.picture.now c.args.records.now in
-    omega (arith, c.requires, all, c.put-line-elements.ensures.end)
+    omega (arith, c.requires, all, c.put_line-elements.ensures.end)
 
-pub put-all-cells-requires : goal.put-all-cells-requires
-put-all-cells-requires g c =
+pub put_all-cells-requires : goal.put_all-cells-requires
+put_all-cells-requires g c =
     let all = whole g.K.Kind.values g.K.WrittenKind.written (design_of c.args.plan.now) c.args.picture.now c.args.records.now in
-    let dead = ap (λ xs. length (listed dead_entry 0 xs)) c.dead-cells.ensures in
-    omega (arith, c.requires, all, dead, c.put-line-elements.ensures.end, c.put-elements-dead.ensures.end)
+    let dead = ap (λ xs. length (listed dead_entry 0 xs)) c.dead_cells.ensures in
+    omega (arith, c.requires, all, dead, c.put_line-elements.ensures.end, c.put_elements-dead.ensures.end)
 
-pub put-all-moves-requires : goal.put-all-moves-requires
-put-all-moves-requires g c =
+pub put_all-moves-requires : goal.put_all-moves-requires
+put_all-moves-requires g c =
     let all = whole g.K.Kind.values g.K.WrittenKind.written (design_of c.args.plan.now) c.args.picture.now c.args.records.now in
-    let dead = ap (λ xs. length (listed dead_entry 0 xs)) c.dead-cells.ensures in
-    omega (arith, c.requires, all, dead, c.put-line-elements.ensures.end, c.put-elements-dead.ensures.end, c.put-all-cells.ensures.end)
+    let dead = ap (λ xs. length (listed dead_entry 0 xs)) c.dead_cells.ensures in
+    omega (arith, c.requires, all, dead, c.put_line-elements.ensures.end, c.put_elements-dead.ensures.end, c.put_all-cells.ensures.end)
 
-pub put-all-last-requires : goal.put-all-last-requires
-put-all-last-requires g c =
+pub put_all-last-requires : goal.put_all-last-requires
+put_all-last-requires g c =
     let all = whole g.K.Kind.values g.K.WrittenKind.written (design_of c.args.plan.now) c.args.picture.now c.args.records.now in
-    let dead = ap (λ xs. length (listed dead_entry 0 xs)) c.dead-cells.ensures in
-    omega (arith, c.requires, all, dead, c.put-line-elements.ensures.end, c.put-elements-dead.ensures.end, c.put-all-cells.ensures.end, c.put-all-moves.ensures.end)
+    let dead = ap (λ xs. length (listed dead_entry 0 xs)) c.dead_cells.ensures in
+    omega (arith, c.requires, all, dead, c.put_line-elements.ensures.end, c.put_elements-dead.ensures.end, c.put_all-cells.ensures.end, c.put_all-moves.ensures.end)
 
-pub put-line-requires : goal.put-line-requires
-put-line-requires g c =
+pub put_line-requires : goal.put_line-requires
+put_line-requires g c =
     let all = whole g.K.Kind.values g.K.WrittenKind.written (design_of c.args.plan.now) c.args.picture.now c.args.records.now in
-    let dead = ap (λ xs. length (listed dead_entry 0 xs)) c.dead-cells.ensures in
-    omega (arith, c.requires, all, dead, c.put-line-elements.ensures.end, c.put-elements-dead.ensures.end, c.put-all-cells.ensures.end, c.put-all-moves.ensures.end, c.put-all-last.ensures.end)
+    let dead = ap (λ xs. length (listed dead_entry 0 xs)) c.dead_cells.ensures in
+    omega (arith, c.requires, all, dead, c.put_line-elements.ensures.end, c.put_elements-dead.ensures.end, c.put_all-cells.ensures.end, c.put_all-moves.ensures.end, c.put_all-last.ensures.end)
 
 pub returns : goal.returns
 returns g c =
     let k = g.K.Kind.values in
     let w = g.K.WrittenKind.written in
     let d = design_of c.args.plan.now in
-    let first : Put c.args.out.now 0 (plat_line w.code d.drawing ∷ []) c.put-line-elements.new.out c.put-line-elements.result =
-    put_as (record { end_is = c.put-line-elements.ensures.end; bytes_are = c.put-line-elements.ensures.bytes }) (ap (λ x. x ∷ []) (c.plat_line.ensures ∙ ap (λ n. plat_line n d.drawing) c.code.ensures)) in
-    let elements : Put c.put-line-elements.new.out c.put-line-elements.result (elements_lines d.drawing.mode 0 d.drawing.elements) c.put-elements-dead.new.out c.put-elements-dead.result =
-    record { end_is = c.put-elements-dead.ensures.end; bytes_are = c.put-elements-dead.ensures.bytes } in
-    let dead : Put c.put-elements-dead.new.out c.put-elements-dead.result (listed dead_entry 0 d.dead) c.put-all-cells.new.out c.put-all-cells.result =
-    put_as (record { end_is = c.put-all-cells.ensures.end; bytes_are = c.put-all-cells.ensures.bytes }) (ap (listed dead_entry 0) c.dead-cells.ensures) in
-    let cells : Put c.put-all-cells.new.out c.put-all-cells.result (listed (cell_entry k w) 0 c.args.picture.now) c.put-all-moves.new.out c.put-all-moves.result =
-    record { end_is = c.put-all-moves.ensures.end; bytes_are = c.put-all-moves.ensures.bytes } in
-    let moves : Put c.put-all-moves.new.out c.put-all-moves.result (listed move_entry 0 (map asked c.args.records.now)) c.put-all-last.new.out c.put-all-last.result =
-    put_as (record { end_is = c.put-all-last.ensures.end; bytes_are = c.put-all-last.ensures.bytes }) (moves-listed 0 c.args.records.now) in
-    let last : Put c.put-all-last.new.out c.put-all-last.result (last_line ∷ []) c.put-line.new.out c.put-line.result =
-    put_as (record { end_is = c.put-line.ensures.end; bytes_are = c.put-line.ensures.bytes }) (ap (λ x. x ∷ []) c.last-line.ensures) in
+    let first : Put c.args.out.now 0 (plat_line w.code d.drawing ∷ []) c.put_line-elements.new.out c.put_line-elements.result =
+    put_as (record { end_is = c.put_line-elements.ensures.end; bytes_are = c.put_line-elements.ensures.bytes }) (ap (λ x. x ∷ []) (c.plat_line.ensures ∙ ap (λ n. plat_line n d.drawing) c.code.ensures)) in
+    let elements : Put c.put_line-elements.new.out c.put_line-elements.result (elements_lines d.drawing.mode 0 d.drawing.elements) c.put_elements-dead.new.out c.put_elements-dead.result =
+    record { end_is = c.put_elements-dead.ensures.end; bytes_are = c.put_elements-dead.ensures.bytes } in
+    let dead : Put c.put_elements-dead.new.out c.put_elements-dead.result (listed dead_entry 0 d.dead) c.put_all-cells.new.out c.put_all-cells.result =
+    put_as (record { end_is = c.put_all-cells.ensures.end; bytes_are = c.put_all-cells.ensures.bytes }) (ap (listed dead_entry 0) c.dead_cells.ensures) in
+    let cells : Put c.put_all-cells.new.out c.put_all-cells.result (listed (cell_entry k w) 0 c.args.picture.now) c.put_all-moves.new.out c.put_all-moves.result =
+    record { end_is = c.put_all-moves.ensures.end; bytes_are = c.put_all-moves.ensures.bytes } in
+    let moves : Put c.put_all-moves.new.out c.put_all-moves.result (listed move_entry 0 (map asked c.args.records.now)) c.put_all-last.new.out c.put_all-last.result =
+    put_as (record { end_is = c.put_all-last.ensures.end; bytes_are = c.put_all-last.ensures.bytes }) (moves-listed 0 c.args.records.now) in
+    let last : Put c.put_all-last.new.out c.put_all-last.result (last_line ∷ []) c.put_line.new.out c.put_line.result =
+    put_as (record { end_is = c.put_line.ensures.end; bytes_are = c.put_line.ensures.bytes }) (ap (λ x. x ∷ []) c.last_line.ensures) in
     let start : 0 ≤ length c.args.out.now = omega arith in
     let parts = put_both start (put_both start (put_both start (put_both start (put_both start first elements) dead) cells) moves) last in
     let all = put_as parts (grouped (plat_line w.code d.drawing) last_line (elements_lines d.drawing.mode 0 d.drawing.elements) (listed dead_entry 0 d.dead) (listed (cell_entry k w) 0 c.args.picture.now) (listed move_entry 0 (map asked c.args.records.now))) in

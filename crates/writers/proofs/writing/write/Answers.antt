@@ -40,11 +40,11 @@ fixed-for g = job_and_file g.K.Kind.values g.K.WrittenKind.written g.met.K.Kind.
 pub returns-then-picture-cells : goal.returns-then-picture-cells
 returns-then-picture-cells g c = search (rules, fixed-for g)
 
-pub returns-then-not-all-fair : goal.returns-then-not-all-fair
-returns-then-not-all-fair g c = search (rules, fixed-for g)
+pub returns-then-not-all_fair : goal.returns-then-not-all_fair
+returns-then-not-all_fair g c = search (rules, fixed-for g)
 
-pub returns-then-not-has-room : goal.returns-then-not-has-room
-returns-then-not-has-room g c = search (rules, fixed-for g)
+pub returns-then-not-has_room : goal.returns-then-not-has_room
+returns-then-not-has_room g c = search (rules, fixed-for g)
 
 pub returns : goal.returns
 returns g c =
@@ -54,10 +54,10 @@ returns g c =
     let j = job_of d c.args.picture.now c.args.records.now in
     let size : length c.args.picture.now ≡ cells_in d = omega (arith, c.if-picture-cells.false, c.cells.ensures) in
     let fixed = fixed-for g in
-    let lawful = lawful-job d c.args.picture.now c.args.records.now (lawful_plan c.args.plan.now) size c.if-not-all-fair.ensures in
+    let lawful = lawful-job d c.args.picture.now c.args.records.now (lawful_plan c.args.plan.now) size c.if-not-all_fair.ensures in
     record {
-      answer = accepted k w j c.args.out.now c.put-job.result lawful c.if-not-has-room.ensures c.put-job.ensures.end;
-      bytes = filled k w j c.args.out.now c.put-job.result c.put-job.new.out c.put-job.ensures.end c.put-job.ensures.bytes;
+      answer = accepted k w j c.args.out.now c.put_job.result lawful c.if-not-has_room.ensures c.put_job.ensures.end;
+      bytes = filled k w j c.args.out.now c.put_job.result c.put_job.new.out c.put_job.ensures.end c.put_job.ensures.bytes;
       back = λ room few. fixed.written_is_read j room lawful few;
       fixed = fixed;
     }

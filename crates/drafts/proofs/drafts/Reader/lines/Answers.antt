@@ -8,14 +8,14 @@ use Rattle.drafts.proofs.drafts.Reader.lines.Goals as goal
 pub lines-init : goal.lines-init
 lines-init g c = (c.requires, omega arith, refl, refl, (suc (length c.args.bytes.now), omega (arith, length-drop 29 c.args.bytes.now), refl))
 
-pub slice-bounds-next-count : goal.slice-bounds-next-count
-slice-bounds-next-count g c = omega arith
+pub slice_bounds-next-count : goal.slice_bounds-next-count
+slice_bounds-next-count g c = omega arith
 
-pub slice-bounds-next-start : goal.slice-bounds-next-start
-slice-bounds-next-start g c = omega arith
+pub slice_bounds-next-start : goal.slice_bounds-next-start
+slice_bounds-next-start g c = omega arith
 
-pub overflow-add-line : goal.overflow-add-line
-overflow-add-line g c = search (rules, arith)
+pub overflow_add-line : goal.overflow_add-line
+overflow_add-line g c = search (rules, arith)
 
 pub lines-preserved : goal.lines-preserved
 lines-preserved g c =

@@ -7,4 +7,4 @@ use Rattle.grids.proofs.shapes.Shape.stepped_back.Goals as goal
 pub returns : goal.returns
 returns c =
     c.shifted.ensures
-    ∙ shifted_stepped (extent_of c.args.self) (opposite c.args.by) c.shift-back.result c.args.cell c.shift-back.ensures
+    ∙ shifted_stepped (extent_of c.args.self) (opposite c.args.by) c.shift_back.result c.args.cell c.shift_back.ensures

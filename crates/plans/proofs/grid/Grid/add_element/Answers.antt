@@ -4,8 +4,8 @@ use Rattle.plans.specs.Holdings.{elements_of}
 use Rattle.plans.proofs.Fairness.{fair_push}
 use Rattle.plans.proofs.grid.Grid.add_element.Goals as goal
 
-pub invariant-of-self : goal.invariant-of-self
-invariant-of-self c =
+pub invariant_of-self : goal.invariant_of-self
+invariant_of-self c =
     let g = c.args.self.now in
-    let made = c.add-element.ensures in
+    let made = c.add_element.ensures in
     (g.wide, (g.narrow, (g.high, (g.low, (made.eight, (omega arith, (ap (all_fair g.mode) made.after ∙ fair_push g.mode (elements_of g.table) g.fair, tt)))))))

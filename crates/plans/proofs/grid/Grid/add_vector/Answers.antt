@@ -14,11 +14,11 @@ returns-then-element-count c =
     let past : ltb c.args.element (length (drawing_of c.args.self.now).elements) ≡ false = le-ltb _ _ (omega arith) in
     record { answer = simp past; after = simp past }
 
-pub invariant-of-self : goal.invariant-of-self
-invariant-of-self c =
+pub invariant_of-self : goal.invariant_of-self
+invariant_of-self c =
     let g = c.args.self.now in
     let side = c.in-Some.side in
     let ls = elements_of g.table in
     let ok : allowed g.mode side (vector_sum c.args.v) ≡ true = search rules in
-    let after : elements_of c.add-vector.new.self ≡ cond (is_ok c.add-vector.result) (set ls c.args.element (put side (get_or ls c.args.element blank) c.args.v)) ls = search rules in
-    (g.wide, (g.narrow, (g.high, (g.low, (c.add-vector.ensures.eight, (omega arith, (ap (all_fair g.mode) after ∙ fair_added g.mode side ls c.args.element c.args.v _ g.fair ok, tt)))))))
+    let after : elements_of c.add_vector.new.self ≡ cond (is_ok c.add_vector.result) (set ls c.args.element (put side (get_or ls c.args.element blank) c.args.v)) ls = search rules in
+    (g.wide, (g.narrow, (g.high, (g.low, (c.add_vector.ensures.eight, (omega arith, (ap (all_fair g.mode) after ∙ fair_added g.mode side ls c.args.element c.args.v _ g.fair ok, tt)))))))

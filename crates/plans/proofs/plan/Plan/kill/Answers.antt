@@ -7,8 +7,8 @@ use Rattle.plans.specs.Drawings.{extent_in}
 use Rattle.plans.specs.Grids.{drawing_of}
 use Rattle.plans.proofs.plan.Plan.kill.Goals as goal
 
-pub invariant-of-self : goal.invariant-of-self
-invariant-of-self c =
+pub invariant_of-self : goal.invariant_of-self
+invariant_of-self c =
     let told = c.kill.ensures in
     let plate = c.args.self.now.plate in
     let n = cell_count (extent_in (drawing_of plate.lower)) in

@@ -7,4 +7,4 @@ use Rattle.plans.proofs.tables.VectorList.has.Goals as goal
 pub returns : goal.returns
 returns c =
     let vs = vec_items c.args.self.now.items in
-    same_from_decides _ _ (contains_decides eqb Decides-eqb vs c.args.v c.contains.result (simp c.as-slice.ensures.value at c.contains.ensures.cases)) (among_decides c.args.v vs)
+    same_from_decides _ _ (contains_decides eqb Decides-eqb vs c.args.v c.contains.result (simp c.as_slice.ensures.value at c.contains.ensures.cases)) (among_decides c.args.v vs)
