@@ -7,7 +7,7 @@ use Rattle.grids.specs.Cells.{Cell, Extent, Numbering, below, numbered, number_a
 use Rattle.grids.specs.Extents.{Sized}
 use Rattle.grids.specs.Shifts.{Adds, shifted}
 use Rattle.grids.proofs.Numbers.{Made, split, make, below_some, some_below}
-use Rattle.grids.proofs.SameVectors.{vector_is}
+use Rattle.grids.specs.VectorLaws.{vector_is}
 
 -- what a number t was made of
 record Taken (g : Extent) (column row layer : ℤ) (t : ℕ) : Type 0 where

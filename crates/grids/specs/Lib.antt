@@ -2,5 +2,6 @@ pub mod Cells
 pub mod Extents
 pub mod Places
 pub mod Shifts
+pub mod VectorLaws
 pub mod Vectors
 pub mod WideRows

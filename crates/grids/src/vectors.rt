@@ -2,8 +2,7 @@ ghost use Rattle.std.specs.Prelude.{◌≡◌, Decides};
 ghost use Rattle.grids.specs.Cells.{opposite, vector_sum};
 ghost use Rattle.grids.specs.Shifts.{Adds};
 ghost use Rattle.grids.specs.Vectors.{same};
-ghost use Rattle.std.specs.Cmp.Rules.{comparing};
-ghost use Rattle.std.proofs.Common.{rules};
+ghost use Rattle.grids.specs.VectorLaws.{same_partial};
 
 // A step on the triangular grid: what it adds to the three coordinates of a cell.
 #[derive(Clone, Copy, Debug)]
@@ -61,11 +60,14 @@ impl Vector {
 
 // Two vectors are equal if their three coordinates are.
 impl PartialEq for Vector {
-    ghost equals = { λ u v r. Decides r (u ≡ v) };
+    ghost eq = { same };
 
-    ghost laws = { Prim.search (comparing, rules) };
+    ghost laws = { same_partial };
 
-    fn eq(&self, other: &Vector) -> bool {
+    fn eq(&self, other: &Vector) -> bool
+        ensures value { result ≡ same self.now other.now }
+        ensures decides { Decides result (self.now ≡ other.now) }
+    {
         self.is_same(*other)
     }
 }

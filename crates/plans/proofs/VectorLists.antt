@@ -1,18 +1,14 @@
 -- What holds of each vector of a list. Assumes nothing.
-use Rattle.std.proofs.Common.{◌≡◌, Bool, true, false, not, List, [], ◌∷◌, ◌++◌, sym, refl, ◌∙◌}
+use Rattle.std.proofs.Common.{◌≡◌, Bool, true, false, not, List, [], ◌∷◌, ◌++◌, refl, ◌∙◌}
 use Rattle.std.proofs.lemmas.Bool.{and_parts, and_from, or_from, or_parts, not-true, not_from_false}
-use Rattle.std.proofs.lemmas.Bool.Decides.{Decides-like, same_from_decides}
 use Rattle.grids.specs.Vectors.{same, among}
 use Rattle.grids.specs.declared.vectors.Vector.{Vector}
-use Rattle.grids.proofs.SameVectors.{same_decides}
+use Rattle.grids.specs.VectorLaws.{same_swap}
 use Rattle.plans.specs.Vectors.{every, different}
 
 pub every_push : (test : Vector → Bool) (vs : List Vector) (v : Vector) → every test vs ≡ true → test v ≡ true → every test (vs ++ v ∷ []) ≡ true
 every_push test [] v h k = and_from (test v) true k h
 every_push test (u ∷ vs) v h k = let p = and_parts (test u) (every test vs) h in and_from (test u) _ p.0 (every_push test vs v p.1 k)
-
-pub same_swap : (u v : Vector) → same u v ≡ same v u
-same_swap u v = same_from_decides _ _ (same_decides u v) (Decides-like (same v u) sym sym (same_decides v u))
 
 among_push : (u : Vector) (vs : List Vector) (v : Vector) → among u vs ≡ false → same v u ≡ false → among u (vs ++ v ∷ []) ≡ false
 among_push u [] v h k = or_from (same v u) false k refl
