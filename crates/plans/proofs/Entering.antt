@@ -6,6 +6,7 @@ use Rattle.layers.specs.Layers.{distinct, kill_answer}
 use Rattle.plates.specs.Lists.{below}
 use Rattle.plates.specs.Lists as cells
 use Rattle.grids.specs.Extents.{lawful_size}
+use Rattle.grids.specs.VectorLaws.{same_swap}
 use Rattle.grids.specs.Vectors.{same, among}
 use Rattle.grids.specs.declared.vectors.Vector.{Vector}
 use Rattle.plans.specs.declared.faults.PlanFault.TheVariants as fault
@@ -16,7 +17,6 @@ use Rattle.plans.specs.Fitting.{drawn, list_answer}
 use Rattle.plans.specs.Modes.{mode_of, mode_number}
 use Rattle.plans.specs.Plans.{Design, with_none_dead, planned}
 use Rattle.plans.specs.Vectors.{different}
-use Rattle.plans.proofs.VectorLists.{same_swap}
 
 pub mode_restored : (m : Mode) → mode_of (mode_number m) ≡ Some m
 mode_restored Strict = refl

@@ -8,4 +8,12 @@ pub invariant_of-self : goal.invariant_of-self
 invariant_of-self c =
     let g = c.args.self.now in
     let made = c.add_element.ensures in
-    (g.wide, (g.narrow, (g.high, (g.low, (made.eight, (omega arith, (ap (all_fair g.mode) made.after ∙ fair_push g.mode (elements_of g.table) g.fair, tt)))))))
+    record {
+      wide = g.wide;
+      narrow = g.narrow;
+      high = g.high;
+      low = g.low;
+      eight = made.eight;
+      few = omega arith;
+      fair = ap (all_fair g.mode) made.after ∙ fair_push g.mode (elements_of g.table) g.fair;
+    }

@@ -21,4 +21,12 @@ invariant_of-self c =
     let ls = elements_of g.table in
     let ok : allowed g.mode side (vector_sum c.args.v) ≡ true = search rules in
     let after : elements_of c.add_vector.new.self ≡ cond (is_ok c.add_vector.result) (set ls c.args.element (put side (get_or ls c.args.element blank) c.args.v)) ls = search rules in
-    (g.wide, (g.narrow, (g.high, (g.low, (c.add_vector.ensures.eight, (omega arith, (ap (all_fair g.mode) after ∙ fair_added g.mode side ls c.args.element c.args.v _ g.fair ok, tt)))))))
+    record {
+      wide = g.wide;
+      narrow = g.narrow;
+      high = g.high;
+      low = g.low;
+      eight = c.add_vector.ensures.eight;
+      few = omega arith;
+      fair = ap (all_fair g.mode) after ∙ fair_added g.mode side ls c.args.element c.args.v _ g.fair ok;
+    }

@@ -12,4 +12,4 @@ invariant_of-self c =
     let told = c.kill.ensures in
     let plate = c.args.self.now.plate in
     let n = cell_count (extent_in (drawing_of plate.lower)) in
-    (ap (λ g. below (cell_count (extent_in (drawing_of g))) (dead_of c.kill.new.self)) told.lower ∙ ap (below n) told.after ∙ killed_below n (dead_of plate) c.args.cell c.args.self.now.within, tt)
+    record { within = ap (λ g. below (cell_count (extent_in (drawing_of g))) (dead_of c.kill.new.self)) told.lower ∙ ap (below n) told.after ∙ killed_below n (dead_of plate) c.args.cell c.args.self.now.within }

@@ -8,7 +8,7 @@ pub returns : goal.returns
 returns c =
     let t = c.args.self.now in
     record {
-      after = one_more t.count c.deref-mut.result.now c.clear.new.element (search rules) c.clear.ensures ∙ ap (λ xs. take t.count (map lists_of xs) ++ blank ∷ []) c.deref-mut.ensures.value;
+      after = one_more t.count c.deref_mut.result.now c.clear.new.element (search rules) c.clear.ensures ∙ ap (λ xs. take t.count (map lists_of xs) ++ blank ∷ []) c.deref_mut.ensures.value;
       count = search rules;
       eight = search rules;
     }

@@ -9,9 +9,9 @@ pub returns : goal.returns
 returns c =
     let t = c.args.self.now in
     let e = c.args.e in
-    let es = c.deref-mut.result.now in
-    let is = c.deref-mut.ensures.value in
-    let was = present t es e c.index-deref-mut-e.result is c.requires.within (search rules) in
+    let es = c.deref_mut.result.now in
+    let is = c.deref_mut.ensures.value in
+    let was = present t es e c.index-deref_mut-e.result is c.requires.within (search rules) in
     record {
       answer = c.add.ensures.answer ∙ ap (λ l. list_answer (list_on c.args.side l) c.args.v) was;
       after =

@@ -10,4 +10,9 @@ invariant_of-self c =
     let v = c.args.v in
     let new : among v (vec_items l.items) ≡ false = search rules in
     let is = c.push_reserved.ensures.items in
-    (omega arith, (omega arith, (ap (every near) is ∙ every_push near (vec_items l.items) v l.near c.requires, (ap different is ∙ different_push (vec_items l.items) v l.apart new, tt))))
+    record {
+      few = omega arith;
+      room = omega arith;
+      near = ap (every near) is ∙ every_push near (vec_items l.items) v l.near c.requires;
+      apart = ap different is ∙ different_push (vec_items l.items) v l.apart new;
+    }
