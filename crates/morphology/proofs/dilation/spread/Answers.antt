@@ -1,7 +1,6 @@
 use Rattle.std.proofs.Common.{length, arith}
 use Rattle.morphology.specs.Passes.{Within}
 use Rattle.morphology.proofs.Passing.{within, spread_place}
-use Rattle.morphology.proofs.dilation.spread.Given as given
 use Rattle.morphology.proofs.dilation.spread.Goals as goal
 
 pub join_into-requires : goal.join_into-requires
