@@ -1,7 +1,7 @@
 -- Which cells a place leads to a cell, and the plate with every step turned round. Assumes nothing.
 use Rattle.std.specs.Prelude.{◌≡◌, ℕ, zero, suc, ◌+◌, ◌<◌, ◌≤◌, Bool, true, false, cond, List, [], ◌∷◌, Some, None, filter, Option, ◌≢◌, refl}
 use Rattle.std.proofs.Common.{sym, ap, ◌∙◌, arith}
-use Rattle.std.specs.List.{range_with_len, AllByRecursion as All, slice_get}
+use Rattle.std.specs.List.{range_with_len, AllByRecursion, slice_get}
 use Rattle.std.proofs.ByRecursion.{kept_by_passes}
 use Rattle.std.proofs.lemmas.Bool.{both_ways, eq-eqb, eqb-true}
 use Rattle.plates.specs.TwoWays.{OneSource, Source}
@@ -17,7 +17,7 @@ some_hits t (Some u) is = let same : u ≡ t = cc in eq-eqb u t same
 some_hits t None is = cc
 
 -- the first of a list is as each is
-first_is : (P : ℕ → Type 0) (xs : List ℕ) (c : ℕ) → All P xs → slice_get xs 0 ≡ Some c → P c
+first_is : (P : ℕ → Type 0) (xs : List ℕ) (c : ℕ) → AllByRecursion P xs → slice_get xs 0 ≡ Some c → P c
 first_is P [] c all is = let z : ◌≡◌ {A = ℕ} 0 1 = cc in absurd (omega arith)
 first_is P (x ∷ xs) c all is = let same : x ≡ c = cc in rw same at all.0
 

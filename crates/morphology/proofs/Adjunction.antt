@@ -1,6 +1,6 @@
 -- Dilating and eroding by one element are adjoint. Assumes nothing.
 use Rattle.std.proofs.Common.{◌≡◌, ℕ, ◌<◌, List, [], ◌∷◌, map, Some, sym, ◌∙◌, subst, arith}
-use Rattle.std.specs.List.{AllByRecursion as All}
+use Rattle.std.specs.List.{AllByRecursion}
 use Rattle.std.proofs.lemmas.List.FromFn.{length-map-range_with_len, get_or-map-range_with_len}
 use Rattle.std.proofs.ByRecursion.{All-map}
 use Rattle.kinds.specs.Lattices.{Values, Lawful, Under}
@@ -13,7 +13,7 @@ use Rattle.morphology.proofs.Joins.{join_all_lowest, join_all_over, meet_all_hig
 use Rattle.morphology.proofs.Orders.{below_itself, below_chain, below_equal}
 use Rattle.morphology.proofs.Reaches.{reached_all, reached_each, reaching_all, reaching_each}
 
-map_all : {X Y : Type 0} (P : X → Type 0) (f : Y → X) (ys : List Y) → All P (map f ys) → All (λ y. P (f y)) ys
+map_all : {X Y : Type 0} (P : X → Type 0) (f : Y → X) (ys : List Y) → AllByRecursion P (map f ys) → AllByRecursion (λ y. P (f y)) ys
 map_all P f [] all = tt
 map_all P f (y ∷ ys) all = (all.0, map_all P f ys all.1)
 
