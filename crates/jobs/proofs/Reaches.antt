@@ -1,5 +1,5 @@
 -- The lines of a lawful job are accepted one after another and lead to the job. Assumes nothing.
-use Rattle.std.proofs.Common.{◌≡◌, ℕ, zero, suc, ◌+◌, ◌-◌, ◌<◌, ◌≤◌, Bool, true, false, cond, not, eqb, ltb, List, [], ◌∷◌, ◌++◌, length, set, replicate, ℤ, pos, negsuc, Some, None, Ok, Result, sym, refl, ap, ◌∙◌, subst, ⊎_elim, arith}
+use Rattle.std.proofs.Common.{◌≡◌, ℕ, suc, ◌+◌, ◌-◌, ◌<◌, ◌≤◌, Bool, true, false, cond, not, eqb, ltb, List, [], ◌∷◌, ◌++◌, length, set, replicate, ℤ, pos, negsuc, Some, None, Ok, Result, sym, refl, ap, ◌∙◌, subst, ⊎_elim, arith}
 use Rattle.std.proofs.lemmas.List.{append-nil, append_assoc, length-append, length-replicate, get_or_at, set_at, take_all, replicate_more}
 use Rattle.std.proofs.lemmas.Bool.{true≢false, false≢true, and_parts, and_from, and_left, and_right, not_from_true, not-false, cases_eq, le-leb, lt-ltb, eq-eqb, cond-true, cond-false}
 use Rattle.std.specs.Option.{option_to_list}
