@@ -16,10 +16,9 @@ fn agrees(rt: &HostRuntime, name: &str) -> anyhow::Result<bool> {
 
 fn compare(rt: &HostRuntime) -> anyhow::Result<()> {
     let names = fs::read_to_string(rt, "names")?;
-    let mut files = 0usize;
+    let files = names.lines().count();
     let mut agreeing = 0usize;
     for name in names.lines() {
-        files = files.saturating_add(1);
         if agrees(rt, name)? {
             agreeing = agreeing.saturating_add(1);
         } else {

@@ -10,31 +10,21 @@ use kinds::WrittenKind;
 use lines::{LineFault, Word, read_fields, read_word};
 
 impl<K: WrittenKind> Reader<K> {
-    // The section and the word decide together whether the line may follow; then its fields are read.
+    // The section and the word decide together whether the line may follow: none leads back to an earlier section, and a vector stands in
+    // an element. Then its fields are read.
     fn line(&mut self, bytes: &[u8]) -> Result<(), FileFault>
         ensures step { Stepped self.old self.new result (line_more K.Kind.values K.WrittenKind.written self.old.room (draft_of self.old) bytes.now) }
         ensures long { OnOk result (29 ≤ length bytes.now) }
     {
         let word = read_word(bytes)?;
-        match (self.section, word) {
-            (Section::Plan | Section::Elements, Word::Elem) => {
-                self.element(read_fields(word, bytes)?)
-            }
-            (Section::Elements, Word::Vect) => self.vector(read_fields(word, bytes)?),
-            (Section::Plan | Section::Elements | Section::Dead, Word::Dead) => {
-                self.dead(read_fields(word, bytes)?)
-            }
-            (Section::Plan | Section::Elements | Section::Dead | Section::Cells, Word::Cell) => {
-                self.cell(read_fields(word, bytes)?)
-            }
-            (
-                Section::Plan | Section::Elements | Section::Dead | Section::Cells | Section::Moves,
-                Word::Move,
-            ) => self.movement(read_fields(word, bytes)?),
-            (
-                Section::Plan | Section::Elements | Section::Dead | Section::Cells | Section::Moves,
-                Word::Last,
-            ) => self.last(read_fields(word, bytes)?),
+        let section = self.section;
+        match word {
+            Word::Elem if section <= Section::Elements => self.element(read_fields(word, bytes)?),
+            Word::Vect if section == Section::Elements => self.vector(read_fields(word, bytes)?),
+            Word::Dead if section <= Section::Dead => self.dead(read_fields(word, bytes)?),
+            Word::Cell if section <= Section::Cells => self.cell(read_fields(word, bytes)?),
+            Word::Move if section <= Section::Moves => self.movement(read_fields(word, bytes)?),
+            Word::Last if section <= Section::Moves => self.last(read_fields(word, bytes)?),
             _ => Err(FileFault::Line(LineFault::Word)),
         }
     }

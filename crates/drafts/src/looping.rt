@@ -13,18 +13,15 @@ impl<K: WrittenKind> Reader<K> {
         requires { 29 ≤ length bytes.now }
         ensures { Led self.old self.new result (read_from K.Kind.values K.WrittenKind.written self.old.room (suc (length bytes.now)) 2 (draft_of self.old) (drop 29 bytes.now)) }
     {
-        let mut at = 29;
-        let mut line = 2;
-        'lines: loop {
-            if at == bytes.len() {
-                break self.end(line);
+        let rest = &bytes[29..];
+        for (at, bytes) in rest.chunks(29).enumerate() {
+            if let Err(fault) = self.next(bytes) {
+                return Err(Stop {
+                    fault,
+                    line: at + 2,
+                });
             }
-            match self.next(&bytes[at..]) {
-                Ok(()) => {}
-                Err(fault) => break 'lines Err(Stop { fault, line }),
-            }
-            at += 29;
-            line += 1;
         }
+        self.end(rest.len() / 29 + 2)
     }
 }

@@ -1,10 +1,9 @@
 // What one line does to a reader.
 ghost use Rattle.std.specs.Prelude.{◌≡◌, ◌-◌, ◌<◌, length, Some};
-ghost use Rattle.plans.specs.Plans.{design_of};
-ghost use Rattle.jobs.specs.Steps.{late, element_more, vector_more, dead_more, valued, cell_more, move_more, more};
-ghost use Rattle.drafts.specs.Drafts.{draft_of, Stepped};
+ghost use Rattle.plans.specs.Plans.{design_of, cells_in};
+ghost use Rattle.jobs.specs.Steps.{late, valued};
+ghost use Rattle.drafts.specs.Drafts.{draft_of, Stepped, Takes};
 ghost use Rattle.lines.specs.Lines.{Fits};
-ghost use Rattle.plans.specs.Vectors.{vector};
 ghost use Rattle.lines.specs.declared.words.Word.TheVariants as word;
 
 use crate::drafts::Reader;
@@ -13,7 +12,7 @@ use kinds::{Kind, WrittenKind};
 use lines::Line;
 use plans::{Plan, Side};
 
-// Whether a vector of that side comes too late for the newest element: side 1 after side 2.
+// Whether a vector of that side, by the number that the line has, comes too late for the newest element: side 1 after side 2.
 fn is_late(plan: &Plan, element: usize, side: usize) -> bool
     requires { element ≡ length (design_of plan.now).drawing.elements - 1 }
     ensures { result ≡ late (design_of plan.now).drawing side }
@@ -23,9 +22,11 @@ fn is_late(plan: &Plan, element: usize, side: usize) -> bool
 
 impl<K: WrittenKind> Reader<K> {
     // ELEM: the next number.
-    fn add_element(&mut self, number: usize) -> Result<(), FileFault>
-        ensures { Stepped self.old self.new result (element_more (draft_of self.old).job number) }
+    pub(crate) fn element(&mut self, line: Line) -> Result<(), FileFault>
+        ensures { Takes K.Kind.values K.WrittenKind.written word.Elem line self.old self.new result }
     {
+        let [number] = line.numbers::<1>()?;
+        let number = natural(number)?;
         if number != self.plan.elements() {
             return Err(FileFault::Number);
         }
@@ -34,58 +35,44 @@ impl<K: WrittenKind> Reader<K> {
         Ok(())
     }
 
-    pub(crate) fn element(&mut self, line: Line) -> Result<(), FileFault>
-        ensures { Stepped self.old self.new result (more K.Kind.values K.WrittenKind.written self.old.room (draft_of self.old).job word.Elem line) }
+    // DEAD: one cell more.
+    pub(crate) fn dead(&mut self, line: Line) -> Result<(), FileFault>
+        ensures { Takes K.Kind.values K.WrittenKind.written word.Dead line self.old self.new result }
     {
-        let number = line.one_number()?;
-        self.add_element(natural(number)?)
-    }
-
-    fn add_dead(&mut self, cell: usize) -> Result<(), FileFault>
-        ensures { Stepped self.old self.new result (dead_more (draft_of self.old).job cell) }
-    {
+        let [cell] = line.numbers::<1>()?;
+        let cell = natural(cell)?;
         self.plan.kill(cell)?;
         self.section = Section::Dead;
         Ok(())
     }
 
-    pub(crate) fn dead(&mut self, line: Line) -> Result<(), FileFault>
-        ensures { Stepped self.old self.new result (more K.Kind.values K.WrittenKind.written self.old.room (draft_of self.old).job word.Dead line) }
-    {
-        let cell = line.one_number()?;
-        self.add_dead(natural(cell)?)
-    }
-
     // VECT: a vector for the newest element.
-    fn add_vector(&mut self, side: usize, a: i32, b: i32, c: i32) -> Result<(), FileFault>
-        ensures { Stepped self.old self.new result (vector_more (draft_of self.old).job side (vector a b c)) }
+    pub(crate) fn vector(&mut self, line: Line) -> Result<(), FileFault>
+        requires { Fits line }
+        ensures { Takes K.Kind.values K.WrittenKind.written word.Vect line self.old self.new result }
     {
+        let [side, a, b, c] = line.numbers::<4>()?;
+        let side = natural(side)?;
+        // Without an element this is 0, and the plan refuses it.
         let element = self.plan.elements().saturating_sub(1);
         if is_late(&self.plan, element, side) {
             return Err(FileFault::Sequence);
         }
-        self.plan.add_vector(element, side, a, b, c)?;
+        self.plan
+            .add_vector(element, side, whole(a), whole(b), whole(c))?;
         self.section = Section::Elements;
         Ok(())
     }
 
-    pub(crate) fn vector(&mut self, line: Line) -> Result<(), FileFault>
-        requires { Fits line }
-        ensures { Stepped self.old self.new result (more K.Kind.values K.WrittenKind.written self.old.room (draft_of self.old).job word.Vect line) }
-    {
-        let (side, a, b, c) = line.four_numbers()?;
-        let side = natural(side)?;
-        self.add_vector(side, whole(a), whole(b), whole(c))
-    }
-
     // Puts a value at a cell after those so far; the cells between are least.
     fn put(&mut self, cell: usize, value: K) -> Result<(), FileFault>
-        requires within { cell < self.old.size }
+        requires within { cell < cells_in (design_of self.old.plan) }
         ensures { Stepped self.old self.new result (valued K.Kind.values K.WrittenKind.written (draft_of self.old).job cell (Some value)) }
     {
         if cell < self.cells.len() {
             return Err(FileFault::Sequence);
         }
+        // It cannot fail, since there is room; the library has no such call without a result.
         let _ = self.cells.resize(cell, K::least());
         self.cells.push_reserved(value);
         self.section = Section::Cells;
@@ -93,33 +80,28 @@ impl<K: WrittenKind> Reader<K> {
     }
 
     // CELL: a cell above the last one, with a value that is not least.
-    fn add_cell(&mut self, cell: usize, number: usize) -> Result<(), FileFault>
-        requires { number < 1000000 }
-        ensures { Stepped self.old self.new result (cell_more K.Kind.values K.WrittenKind.written (draft_of self.old).job cell number) }
+    pub(crate) fn cell(&mut self, line: Line) -> Result<(), FileFault>
+        requires { Fits line }
+        ensures { Takes K.Kind.values K.WrittenKind.written word.Cell line self.old self.new result }
     {
+        let [cell, number] = line.numbers::<2>()?;
+        let cell = natural(cell)?;
+        let number = natural(number)?;
         if !(cell < self.plan.cells() && 0 < number) {
             return Err(FileFault::Number);
         }
-        let Some(value) = K::from_number(number as u32) else {
-            return Err(FileFault::Number);
-        };
+        let value = K::from_number(number as u32).ok_or(FileFault::Number)?;
         self.put(cell, value)
     }
 
-    pub(crate) fn cell(&mut self, line: Line) -> Result<(), FileFault>
-        requires { Fits line }
-        ensures { Stepped self.old self.new result (more K.Kind.values K.WrittenKind.written self.old.room (draft_of self.old).job word.Cell line) }
-    {
-        let (cell, number) = line.two_numbers()?;
-        let cell = natural(cell)?;
-        self.add_cell(cell, natural(number)?)
-    }
-
     // MOVE: one that a file can carry, while there are records for it.
-    fn add_move(&mut self, action: usize, element: usize) -> Result<(), FileFault>
-        ensures { Stepped self.old self.new result (move_more self.old.room (draft_of self.old).job (record { action = action; element = element })) }
+    pub(crate) fn movement(&mut self, line: Line) -> Result<(), FileFault>
+        ensures { Takes K.Kind.values K.WrittenKind.written word.Move line self.old self.new result }
     {
-        if !(1 <= action && action <= 4 && element <= 99) {
+        let [action, element] = line.numbers::<2>()?;
+        let action = natural(action)?;
+        let element = natural(element)?;
+        if !((1..=4).contains(&action) && element <= 99) {
             return Err(FileFault::Number);
         }
         if self.orders.len() >= self.room {
@@ -133,18 +115,11 @@ impl<K: WrittenKind> Reader<K> {
         Ok(())
     }
 
-    pub(crate) fn movement(&mut self, line: Line) -> Result<(), FileFault>
-        ensures { Stepped self.old self.new result (more K.Kind.values K.WrittenKind.written self.old.room (draft_of self.old).job word.Move line) }
-    {
-        let (action, element) = line.two_numbers()?;
-        let action = natural(action)?;
-        self.add_move(action, natural(element)?)
-    }
-
+    // LAST.
     pub(crate) fn last(&mut self, line: Line) -> Result<(), FileFault>
-        ensures { Stepped self.old self.new result (more K.Kind.values K.WrittenKind.written self.old.room (draft_of self.old).job word.Last line) }
+        ensures { Takes K.Kind.values K.WrittenKind.written word.Last line self.old self.new result }
     {
-        line.no_number()?;
+        line.numbers::<0>()?;
         self.section = Section::Last;
         Ok(())
     }

@@ -104,12 +104,12 @@ fn numbers_that_are_due(rt: HostRuntime) {
     let two = line(Word::Move, Some(a), Some(b), None, None);
     let gap = line(Word::Move, Some(a), None, None, Some(b));
     let four = line(Word::Vect, Some(a), Some(b), Some(b), Some(a));
-    assert_eq!(rt; none.no_number(), Ok(()));
-    assert_eq!(rt; gap.no_number(), Err(LineFault::Field));
-    assert_eq!(rt; one.one_number(), Ok(a));
-    assert_eq!(rt; gap.one_number(), Err(LineFault::Field));
-    assert_eq!(rt; two.two_numbers(), Ok((a, b)));
-    assert_eq!(rt; four.two_numbers(), Err(LineFault::Field));
-    assert_eq!(rt; four.four_numbers(), Ok((a, b, b, a)));
-    assert_eq!(rt; two.four_numbers(), Err(LineFault::Field));
+    assert_eq!(rt; none.numbers(), Ok([]));
+    assert_eq!(rt; gap.numbers::<0>(), Err(LineFault::Field));
+    assert_eq!(rt; one.numbers(), Ok([a]));
+    assert_eq!(rt; gap.numbers::<1>(), Err(LineFault::Field));
+    assert_eq!(rt; two.numbers(), Ok([a, b]));
+    assert_eq!(rt; four.numbers::<2>(), Err(LineFault::Field));
+    assert_eq!(rt; four.numbers(), Ok([a, b, b, a]));
+    assert_eq!(rt; two.numbers::<4>(), Err(LineFault::Field));
 }

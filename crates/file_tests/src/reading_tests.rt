@@ -28,7 +28,7 @@ fn record(action: u8, element: usize, answer: u8, area: usize) -> Record {
 fn a_job_and_the_record_behind_it(rt: HostRuntime) -> Result<(), Fail> {
     let head = measure(&SAMPLE)?;
     assert_eq!(rt; (head.mode, head.width, head.height), (2, 1, 1));
-    assert_eq!(rt; (head.code, head.cells), (1, 2));
+    assert_eq!(rt; (head.kind.code(), head.cells), (1, 2));
     let mut picture = [Touch::No, Touch::Yes];
     let mut records = [record(9, 9, 9, 9); 3];
     let (plan, moves) = read(rt.alloc(), &SAMPLE, &mut picture, &mut records)?;

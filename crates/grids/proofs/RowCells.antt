@@ -1,15 +1,11 @@
 -- Where the cells of a row stand in a picture. Assumes nothing.
-use Rattle.std.proofs.Common.{◌≡◌, ℕ, ◌+◌, ◌*◌, ◌/◌, ◌%◌, ◌<◌, ◌≤◌, List, get_or, drop, pos, ap, ◌∙◌, arith}
+use Rattle.std.proofs.Common.{◌*◌, ◌/◌, ◌%◌, ◌≤◌, List, get_or, drop, pos, ap, ◌∙◌}
 use native.Mathlib.Nat.{div-div-eq-div-mul}
 use Rattle.std.proofs.lemmas.Nat.{mul-le, mod_below, div-add-mod'}
 use Rattle.std.proofs.lemmas.List.{get_or-take, get_or-drop}
-use Rattle.grids.specs.Cells.{Extent, cell_count}
+use Rattle.grids.specs.Cells.{Extent}
 use Rattle.grids.specs.Extents.{Sized}
 use Rattle.grids.specs.WideRows.{row_length, ByRows}
-
--- a row of a picture ends within it
-pub row_ends : (g : Extent) (l n y : ℕ) → l ≡ row_length g → n ≡ cell_count g → y < g.height → y * l + l ≤ n
-row_ends g l n y long all lt = rw (long, all) (omega (arith, mul-le (y + 1) (row_length g) g.height (row_length g) (omega arith) (omega arith)))
 
 -- a cell stands in the row of its y
 pub by_rows : {V : Type 0} (g : Extent) → Sized g → (a : List V) → ByRows g a

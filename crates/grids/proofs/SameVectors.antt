@@ -1,10 +1,13 @@
--- Whether a vector stands in a list. Assumes nothing.
-use Rattle.std.proofs.Common.{◌≡◌, List, Decides, refl}
-use Rattle.std.specs.List.{ContainsAt as Has}
-use Rattle.std.proofs.lemmas.Bool.Decides.{Decides-by_or}
+-- The test of two vectors decides whether they are equal. Assumes nothing.
+use Rattle.std.proofs.Common.{◌≡◌, Decides, sym, rules}
+use Rattle.std.proofs.lemmas.Bool.Decides.{Decides-and, Decides-int_eq, Decides-like, same_from_decides}
 use Rattle.grids.specs.declared.vectors.Vector.{Vector}
-use Rattle.grids.specs.Vectors.{same, among}
-use Rattle.grids.specs.VectorLaws.{same_decides}
+use Rattle.grids.specs.Vectors.{same}
 
-pub among_decides : (v : Vector) (vs : List Vector) → Decides (among v vs) (Has vs v)
-among_decides v vs = Decides-by_or (λ u. same u v) (λ u. u ≡ v) (among v) (λ u. same_decides u v) refl (λ _ _. refl) vs
+-- the three coordinates do
+pub same_decides : (u v : Vector) → Decides (same u v) (u ≡ v)
+same_decides u v =
+    Decides-like (same u v) (λ p. search rules) (λ e. search rules) (Decides-and _ _ (Decides-int_eq u.a v.a) (Decides-and _ _ (Decides-int_eq u.b v.b) (Decides-int_eq u.c v.c)))
+
+pub same_swap : (u v : Vector) → same u v ≡ same v u
+same_swap u v = same_from_decides _ _ (same_decides u v) (Decides-like (same v u) sym sym (same_decides v u))

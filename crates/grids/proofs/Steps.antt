@@ -1,5 +1,6 @@
 -- Numbers and cells fix each other, and a step and the opposite step undo each other. Assumes nothing.
-use Rattle.std.proofs.Common.{◌≡◌, ℕ, ◌/◌, ◌%◌, ◌<◌, ℤ, pos, ◌+ℤ◌, ◌-ℤ◌, Some, None, Option, sym, refl, ap, ◌∙◌, arith}
+use Rattle.std.proofs.Common.{◌≡◌, ℕ, ◌/◌, ◌%◌, ◌<◌, ℤ, pos, ◌+ℤ◌, ◌-ℤ◌, Some, Option, sym, refl, ap, ◌∙◌, arith}
+use Rattle.std.proofs.lemmas.Grind.{common_steps}
 use Rattle.std.proofs.lemmas.Int.{ints}
 use Rattle.grids.specs.declared.vectors.Shift.{Shift}
 use Rattle.grids.specs.declared.vectors.Vector.{Vector}
@@ -7,7 +8,6 @@ use Rattle.grids.specs.Cells.{Cell, Extent, Numbering, below, numbered, number_a
 use Rattle.grids.specs.Extents.{Sized}
 use Rattle.grids.specs.Shifts.{Adds, shifted}
 use Rattle.grids.proofs.Numbers.{Made, split, make, below_some, some_below}
-use Rattle.grids.specs.VectorLaws.{vector_is}
 
 -- what a number t was made of
 record Taken (g : Extent) (column row layer : ℤ) (t : ℕ) : Type 0 where
@@ -19,19 +19,16 @@ record Taken (g : Extent) (column row layer : ℤ) (t : ℕ) : Type 0 where
   i_is : layer ≡ pos i
   made : Made g x y i t
 
+parts_of : (g : Extent) (x y i : Option ℕ) (t : ℕ) → numbered g x y i ≡ Some t → (a : ℕ) × (b : ℕ) × (c : ℕ) × (x ≡ Some a) × (y ≡ Some b) × (i ≡ Some c) × (number_at g a b c ≡ t)
+parts_of g x y i t h = grind (arith, common_steps)
+
 taken : (g : Extent) (column row layer : ℤ) (t : ℕ) → numbered g (below column g.width) (below row g.height) (below layer g.sums) ≡ Some t → Taken g column row layer t
-taken g column row layer t h = at _ _ _ refl refl refl h
-  where
-    at : (x y i : Option ℕ) → below column g.width ≡ x → below row g.height ≡ y → below layer g.sums ≡ i → numbered g x y i ≡ Some t → Taken g column row layer t
-    at None y i p q r e = let z : ◌≡◌ {A = ℕ} 0 1 = cc in absurd (omega arith)
-    at (Some x) None i p q r e = let z : ◌≡◌ {A = ℕ} 0 1 = cc in absurd (omega arith)
-    at (Some x) (Some y) None p q r e = let z : ◌≡◌ {A = ℕ} 0 1 = cc in absurd (omega arith)
-    at (Some x) (Some y) (Some i) p q r e =
-        let a = below_some column g.width x p in
-        let b = below_some row g.height y q in
-        let d = below_some layer g.sums i r in
-        let whole : number_at g x y i ≡ t = cc in
-        record { x = x; y = y; i = i; x_is = a.1; y_is = b.1; i_is = d.1; made = rw whole at (make g x y i a.0 b.0 d.0) }
+taken g column row layer t h =
+    let p = parts_of g _ _ _ t h in
+    let x = below_some column g.width p.0 p.3 in
+    let y = below_some row g.height p.1 p.4 in
+    let i = below_some layer g.sums p.2 p.5 in
+    record { x = p.0; y = p.1; i = p.2; x_is = x.1; y_is = y.1; i_is = i.1; made = rw p.6 at (make g p.0 p.1 p.2 x.0 y.0 i.0) }
 
 cell_is : {c d : Cell} → c.x ≡ d.x → c.y ≡ d.y → c.z ≡ d.z → c ≡ d
 cell_is p q r = λ i. record { x = p i; y = q i; z = r i }
@@ -58,17 +55,17 @@ numbering g sized = record {
 layer_of : (g : Extent) (v : Vector) (n : ℕ) → pos (n % g.sums) +ℤ vector_sum v ≡ cell_sum (moved (cell_at g n) v) -ℤ g.lowest
 layer_of g v n = omega (arith, ints)
 
-pub shifted_stepped : (g : Extent) (v : Vector) (s : Shift) (n : ℕ) → Adds v s → shifted g s n ≡ stepped g v n
-shifted_stepped g v s n adds = λ i.
+pub shifted_stepped : (g : Extent) (v : Vector) (s : Shift) (n : ℕ) (r : Option ℕ) → r ≡ shifted g s n → Adds v s → r ≡ stepped g v n
+shifted_stepped g v s n r is adds =
     let layer = ap (λ z. pos (n % g.sums) +ℤ z) adds.sum ∙ layer_of g v n in
-    numbered g (below (pos (n / g.sums % g.width) +ℤ adds.column i) g.width) (below (pos (n / g.sums / g.width) +ℤ adds.row i) g.height) (below (layer i) g.sums)
+    is ∙ (λ i. numbered g (below (pos (n / g.sums % g.width) +ℤ adds.column i) g.width) (below (pos (n / g.sums / g.width) +ℤ adds.row i) g.height) (below (layer i) g.sums))
 
 moved_moved : (c : Cell) (v : Vector) → moved (moved c v) (opposite v) ≡ c
 moved_moved c v = cell_is (omega (arith, ints)) (omega (arith, ints)) (omega (arith, ints))
 
 -- the opposite of the opposite is the vector itself
 pub opposite_opposite : (v : Vector) → opposite (opposite v) ≡ v
-opposite_opposite v = vector_is (omega (arith, ints)) (omega (arith, ints)) (omega (arith, ints))
+opposite_opposite v = grind (arith, ints)
 
 module _ (g : Extent) (sized : Sized g) (v : Vector) (n t : ℕ) (h : stepped g v n ≡ Some t) where
   -- a step ends on the plate

@@ -2,6 +2,5 @@ pub mod Cells
 pub mod Extents
 pub mod Places
 pub mod Shifts
-pub mod VectorLaws
 pub mod Vectors
 pub mod WideRows

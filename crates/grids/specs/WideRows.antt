@@ -1,6 +1,7 @@
 -- The widest row of a picture on a grid plate. Assumes nothing.
 use Rattle.std.specs.Prelude.{◌≡◌, ℕ, suc, ◌*◌, ◌/◌, ◌%◌, ◌<◌, ◌≤◌, max, cond, List, [], ◌∷◌, map, length, take, drop, pos, Some, None, Ok, Err, Option, Result, ◌==◌, nat_lt, slice_index_or}
 use Rattle.std.specs.List.{range_with_len}
+use Rattle.std.specs.Option.{option_map_or}
 use Rattle.kinds.specs.Lattices.{Values}
 use Rattle.morphology.specs.Pictures.{area}
 use Rattle.grids.specs.declared.rows.Row.{Row}
@@ -59,10 +60,6 @@ abbrev pub Widest : ℕ → (ℕ → ℕ) → Option Row → Type 0
 Widest rows count None = (y : ℕ) → y < rows → count y ≡ 0
 Widest rows count (Some r) = IsWidest rows count r
 
--- the count of a best row so far, and the wider of it and one more: the new row only if it has more
-abbrev pub best_count : Option Row → ℕ
-best_count None = 0
-best_count (Some r) = r.count
-
+-- the wider of a best row so far and one more: the new row only if it has more
 abbrev pub wider : Option Row → Row → Option Row
-wider best r = cond (nat_lt (best_count best) r.count) (Some r) best
+wider best r = cond (nat_lt (option_map_or (λ b. b.count) best 0) r.count) (Some r) best

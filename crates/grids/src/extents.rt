@@ -1,4 +1,4 @@
-ghost use Rattle.std.specs.Prelude.{◌≡◌, ◌≤◌, true, IfSome, unsigned_abs};
+ghost use Rattle.std.specs.Prelude.{◌≡◌, IfSome};
 ghost use Rattle.std.specs.Option.{option_map};
 ghost use Rattle.grids.specs.Cells.{cell_count, Numbering};
 ghost use Rattle.grids.specs.Extents.{lowest_sum, sum_count, extent_of, lawful_side, shaped};
@@ -8,8 +8,7 @@ use crate::shapes::{Form, Shape};
 impl Form {
     // The lowest sum that the plate holds.
     pub(crate) fn lowest(self) -> isize
-        ensures sum { result ≡ lowest_sum self }
-        ensures near { unsigned_abs result ≤ 2 }
+        ensures { result ≡ lowest_sum self }
     {
         match self {
             Form::Flat => 0,
@@ -19,9 +18,7 @@ impl Form {
 
     // How many sums the plate holds.
     pub(crate) fn sums(self) -> usize
-        ensures count { result ≡ sum_count self }
-        ensures some { 1 ≤ result }
-        ensures few { result ≤ 6 }
+        ensures { result ≡ sum_count self }
     {
         match self {
             Form::Flat => 2,
@@ -30,12 +27,11 @@ impl Form {
     }
 }
 
-// Whether that is one of 1 to 64.
+// Whether a plate may have so many columns, or rows.
 fn is_lawful_side(side: usize) -> bool
-    ensures test { result ≡ lawful_side side }
-    ensures bounds { result ≡ true → (1 ≤ side) × (side ≤ 64) }
+    ensures { result ≡ lawful_side side }
 {
-    1 <= side && side <= 64
+    (1..=64).contains(&side)
 }
 
 impl Shape {
@@ -55,19 +51,14 @@ impl Shape {
         }
     }
 
-    // So many sums in each column of each row.
-    fn cell_count(self) -> usize
-        ensures { result ≡ cell_count (extent_of self) }
-    {
-        let sums = self.form.sums();
-        sums * (self.width * self.height)
-    }
-
-    // The number of cells. The cells are numbered from 0 on: numbers and cells fix each other.
+    // The number of cells: so many sums in each column of each row. The cells are numbered from 0 on, and numbers and cells fix each
+    // other.
+    #[tactic(auto, using(crate::proofs::Steps::numbering, crate::proofs::Sizes::sized))]
     pub fn cells(self) -> usize
         ensures count { result ≡ cell_count (extent_of self) }
         ensures numbering { Numbering (extent_of self) }
     {
-        self.cell_count()
+        let sums = self.form.sums();
+        sums * (self.width * self.height)
     }
 }

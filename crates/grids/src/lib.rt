@@ -10,4 +10,4 @@ mod vectors;
 pub use places::{Movers, Place};
 pub use rows::{Row, RowFault};
 pub use shapes::{Form, Shape};
-pub use vectors::Vector;
+pub use vectors::{Vector, coordinates_decide};

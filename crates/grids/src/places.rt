@@ -14,7 +14,7 @@ pub enum Movers {
 }
 
 // A place of an element: it moves some cells by a vector.
-#[derive(Clone, Copy)]
+#[derive(Clone, Copy, PartialEq, Debug)]
 pub struct Place {
     pub movers: Movers,
     pub vector: Vector,
@@ -46,26 +46,17 @@ impl Place {
         }
     }
 
-    // Where the opposite step leads, if the place moves the cell there.
-    fn source(self, shape: Shape, cell: usize) -> Option<usize>
-        ensures { result ≡ led_back (extent_of shape) self cell }
-    {
-        if cell >= shape.cells() {
-            return None;
-        }
-        let from = shape.stepped_back(self.vector, cell)?;
-        if self.movers.moves(shape.sum(from)) {
-            Some(from)
-        } else {
-            None
-        }
-    }
-
-    // The one cell that the place leads to a cell; none where it leads no cell there.
+    // The one cell that the place leads to a cell; none where it leads no cell there. It is the cell that the opposite step leads to, if
+    // the place moves that one.
     pub fn back(self, shape: Shape, cell: usize) -> Option<usize>
         ensures answer { result ≡ led_back (extent_of shape) self cell }
         ensures way { (c : ℕ) → (result ≡ Some c) ↔ (led (extent_of shape) self c ≡ Some cell) }
     {
-        self.source(shape, cell)
+        if cell >= shape.cells() {
+            return None;
+        }
+        shape
+            .stepped_back(self.vector, cell)
+            .filter(|from| self.movers.moves(shape.sum(*from)))
     }
 }

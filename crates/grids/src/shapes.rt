@@ -8,7 +8,7 @@ pub enum Form {
 }
 
 // The size of a grid plate: its form, and 1 to 64 columns and rows.
-#[derive(Clone, Copy)]
+#[derive(Clone, Copy, PartialEq, Debug)]
 pub struct Shape {
     pub form: Form,
     pub width: usize,

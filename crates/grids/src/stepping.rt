@@ -1,4 +1,4 @@
-ghost use Rattle.std.specs.Prelude.{◌≡◌, ◌<◌, pos, ◌+ℤ◌, IfSome};
+ghost use Rattle.std.specs.Prelude.{◌≡◌, ◌<◌, pos, ◌+ℤ◌};
 ghost use Rattle.grids.specs.Cells.{below, number_at, sum_at, stepped, opposite};
 ghost use Rattle.grids.specs.Extents.{extent_of};
 ghost use Rattle.grids.specs.Shifts.{shifted};
@@ -8,11 +8,9 @@ use crate::vectors::{Shift, Vector};
 
 // at + by, if that is one of 0 to size - 1.
 fn shifted_within(at: usize, by: isize, size: usize) -> Option<usize>
-    ensures value { result ≡ below (pos at +ℤ by) size }
-    ensures within { IfSome result (λ to. to < size) }
+    ensures { result ≡ below (pos at +ℤ by) size }
 {
-    let to = at.checked_add_signed(by)?;
-    if to < size { Some(to) } else { None }
+    at.checked_add_signed(by).filter(|to| *to < size)
 }
 
 impl Shape {
@@ -52,7 +50,7 @@ impl Shape {
         self.shifted(by.shift(), cell)
     }
 
-    // Where the opposite step leads it.
+    // Where the opposite step leads it: no call of `stepped`, since the opposite vector may not fit.
     pub(crate) fn stepped_back(self, by: Vector, cell: usize) -> Option<usize>
         ensures { result ≡ stepped (extent_of self) (opposite by) cell }
     {

@@ -2,10 +2,10 @@ ghost use Rattle.std.specs.Prelude.{◌≡◌, Decides};
 ghost use Rattle.grids.specs.Cells.{opposite, vector_sum};
 ghost use Rattle.grids.specs.Shifts.{Adds};
 ghost use Rattle.grids.specs.Vectors.{same};
-ghost use Rattle.grids.specs.VectorLaws.{same_partial};
+ghost use Rattle.grids.specs.declared.vectors.Vector.{Vector};
 
 // A step on the triangular grid: what it adds to the three coordinates of a cell.
-#[derive(Clone, Copy, Debug)]
+#[derive(Clone, Copy, Default, PartialEq, Debug)]
 pub struct Vector {
     pub a: i32,
     pub b: i32,
@@ -21,7 +21,7 @@ pub(crate) struct Shift {
 }
 
 impl Vector {
-    // The sum of the three coordinates.
+    // The sum of the three coordinates. `isize` has no `From<i32>`, so they are widened by `as`, which is proved to lose nothing.
     pub fn sum(self) -> isize
         ensures { result ≡ vector_sum self }
     {
@@ -39,35 +39,23 @@ impl Vector {
         }
     }
 
-    // What the step by the opposite vector adds.
+    // What the step by the opposite vector adds. The opposite vector itself may not fit: the least `i32` has no opposite.
     pub(crate) fn shift_back(self) -> Shift
         ensures { Adds (opposite self) result }
     {
+        let Shift { column, row, sum } = self.shift();
         Shift {
-            column: -(self.a as isize),
-            row: -(self.b as isize),
-            sum: -self.sum(),
+            column: -column,
+            row: -row,
+            sum: -sum,
         }
     }
-
-    // Whether the three coordinates agree.
-    fn is_same(self, other: Vector) -> bool
-        ensures { result ≡ same self other }
-    {
-        self.a == other.a && self.b == other.b && self.c == other.c
-    }
 }
 
-// Two vectors are equal if their three coordinates are.
-impl PartialEq for Vector {
-    ghost eq = { same };
-
-    ghost laws = { same_partial };
-
-    fn eq(&self, other: &Vector) -> bool
-        ensures value { result ≡ same self.now other.now }
-        ensures decides { Decides result (self.now ≡ other.now) }
-    {
-        self.is_same(*other)
-    }
-}
+// That `==` tells of two vectors whether their three coordinates agree, and so whether they are one vector. The call does nothing; its
+// contract is the theorem.
+#[tactic(auto, using(crate::proofs::SameVectors::same_decides))]
+pub fn coordinates_decide()
+    ensures agree { (u v : Vector) → ⟦<Vector as PartialEq>⟧.eq u v ≡ same u v }
+    ensures decide { (u v : Vector) → Decides (⟦<Vector as PartialEq>⟧.eq u v) (u ≡ v) }
+{}

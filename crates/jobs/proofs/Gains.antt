@@ -1,7 +1,9 @@
 -- An accepted line is exactly what the lines of a job gain. Assumes nothing.
 use Rattle.std.proofs.Common.{◌≡◌, ℕ, zero, suc, ◌+◌, ◌-◌, ◌<◌, ◌≤◌, Bool, true, false, cond, not, ◌&&◌, eqb, ltb, leb, List, [], ◌∷◌, ◌++◌, length, get_or, Some, None, Ok, Err, Option, Result, sym, refl, ap, ◌∙◌, subst, append_assoc, append-nil, arith}
 use Rattle.std.proofs.lemmas.List.{length_push}
-use Rattle.std.proofs.lemmas.Bool.{true≢false, false≢true, eqb-true, eq-eqb, leb-true, le-leb, ltb-true, and_parts, cond_both, cond-true}
+use Rattle.std.proofs.lemmas.Result.{IfOk-at_ok}
+use Rattle.std.specs.Result.{IfOk}
+use Rattle.std.proofs.lemmas.Bool.{eqb-true, eq-eqb, leb-true, le-leb, ltb-true, and_parts, cond_both, cond-true}
 use Rattle.kinds.specs.Lattices.{Values, Lawful}
 use Rattle.kinds.specs.Numbers.{Written, Numbered}
 use Rattle.grids.specs.declared.vectors.Vector.{Vector}
@@ -36,7 +38,7 @@ use Rattle.jobs.specs.declared.faults.FileFault.TheVariants as fault
 use Rattle.jobs.specs.declared.orders.Order.{Order}
 use Rattle.jobs.specs.declared.sections.Section.{Section}
 use Rattle.jobs.specs.declared.sections.Section.TheVariants as section
-use Rattle.jobs.proofs.Accepted.{refused, Of, passed}
+use Rattle.jobs.proofs.Accepted.{passed}
 use Rattle.jobs.proofs.Listings.{listed_push, padded_listed, length_padded, element_push, last_more, first_more, second_more}
 use Rattle.jobs.proofs.Signs.{AllSigned, fields_signed}
 
@@ -101,16 +103,13 @@ module _ (l : Line) (g d c m : List Line) where
 sooner : (n a b : ℕ) → leb n a ≡ true → a ≤ b → leb n b ≡ true
 sooner n a b y le = let h = leb-true n a y in le-leb n b (omega arith)
 
-never : {P : Type 0} (a b : ℕ) → b < a → leb a b ≡ true → P
-never a b lt y = let h = leb-true a b y in absurd (omega arith)
-
 and_rest : (a b : Bool) → a ≡ true → (a && b) ≡ false → b ≡ false
 and_rest true b y is = is
-and_rest false b y is = absurd (false≢true y)
+and_rest false b y is = cc
 
 none_is : {X : Type 0} (xs : List X) → not (none xs) ≡ false → xs ≡ []
 none_is [] is = refl
-none_is (x ∷ xs) is = absurd (true≢false is)
+none_is (x ∷ xs) is = cc
 
 -- the number of a side
 
@@ -120,13 +119,13 @@ side_number m Second = 2
 
 only_named : (n : ℕ) (s : Side) → only_side n ≡ Some s → (First ≡ s) × (0 ≡ n)
 only_named zero s is = (cc, refl)
-only_named (suc n) s is = let z : ◌≡◌ {A = ℕ} 0 1 = cc in absurd (omega arith)
+only_named (suc n) s is = cc
 
 either_named : (n : ℕ) (s : Side) → either_side n ≡ Some s → side_number Independent s ≡ n
-either_named zero s is = let z : ◌≡◌ {A = ℕ} 0 1 = cc in absurd (omega arith)
+either_named zero s is = cc
 either_named (suc zero) s is = let same : s ≡ First = cc in ap (side_number Independent) same
 either_named (suc (suc zero)) s is = let same : s ≡ Second = cc in ap (side_number Independent) same
-either_named (suc (suc (suc n))) s is = let z : ◌≡◌ {A = ℕ} 0 1 = cc in absurd (omega arith)
+either_named (suc (suc (suc n))) s is = cc
 
 side_named : (m : Mode) (n : ℕ) (s : Side) → side_of m n ≡ Some s → side_number m s ≡ n
 side_named Strict n s is = let h = only_named n s is in ap (side_number Strict) (sym h.0) ∙ h.1
@@ -137,7 +136,7 @@ side_named Strong n s is = let h = only_named n s is in ap (side_number Strong) 
 -- an accepted vector is the line that its element gains
 put_more : (m : Mode) (side : ℕ) (l : Lists) (v : Vector) (o : Option Side) → side_of m side ≡ o → sided_answer m o l v ≡ Ok tt → (eqb side (first_side m) && not (none l.second)) ≡ false
     → (n : ℕ) → element_lines m n (put_on o l v) ≡ element_lines m n l ++ (vect_line side v ∷ [])
-put_more m side l v None is ok early n = refused ok
+put_more m side l v None is ok early n = cc
 put_more m side l v (Some First) is ok early n =
     let same = side_named m side First is in
     first_more m n l v (none_is l.second (and_rest _ _ (eq-eqb side (first_side m) (sym same)) early)) ∙ ap (λ x. element_lines m n l ++ (vect_line x v ∷ [])) same
@@ -145,7 +144,7 @@ put_more m side l v (Some Second) is ok early n = second_more m n l v ∙ ap (λ
 
 in_plan_ok : (r : Result (Unit {0}) KillFault) → in_plan r ≡ Ok tt → r ≡ Ok tt
 in_plan_ok (Ok u) is = refl
-in_plan_ok (Err f) is = refused is
+in_plan_ok (Err f) is = cc
 
 -- the lists of the sections after that of a draft are empty, and its picture is within the plan
 pub record Tidy {V : Type 0} (s : Draft V) : Type 0 where
@@ -240,7 +239,7 @@ module _ {V : Type 0} (k : Values V) (w : Written V) where
         plan_both P bad (dead_line c) (in_plan (kill_answer (cells_in d) d.dead c)) _ (λ ok.
         subst (λ r. P (dead_line c) (drafted section.Dead j (record { drawing = d.drawing; dead = dead_after r d.dead c }))) (sym (in_plan_ok _ ok)) (
           ap (λ x. head (G ++ (x ++ (C ++ M)))) (listed_push dead_entry d.dead c _ refl) ∙ ap head (end_dead (dead_line c) G D C M (ap (listed (cell_entry k w) 0) hp) (ap (listed move_entry 0) ho)),
-          record { dead = never 2 1 (omega arith); picture = λ _. hp; orders = λ _. ho; within = tidy.within },
+          record { dead = λ y. cc; picture = λ _. hp; orders = λ _. ho; within = tidy.within },
         ))
 
     -- cells
@@ -265,7 +264,7 @@ module _ {V : Type 0} (k : Values V) (w : Written V) where
         let size = length_padded k c a le in (
           ap (λ x. head (G ++ (D ++ (x ++ M)))) (listed_push (cell_entry k w) (padded k c a) x (cell_line c n) (value_written n x above is _ c size) ∙ ap (λ x. x ++ (cell_line c n ∷ [])) (padded_listed k w lawful c a le))
               ∙ ap head (end_cell (cell_line c n) G D C M (ap (listed move_entry 0) ho)),
-          record { dead = never 3 1 (omega arith); picture = never 3 2 (omega arith); orders = λ _. ho; within = omega (arith, length_push (padded k c a) x) },
+          record { dead = λ y. cc; picture = λ y. cc; orders = λ _. ho; within = omega (arith, length_push (padded k c a) x) },
         )) (λ _. tt)
 
     cell_gains : (c n : ℕ) → leb (place s.section) 3 ≡ true → P (cell_line c n) (cell_more k w j c n)
@@ -281,7 +280,7 @@ module _ {V : Type 0} (k : Values V) (w : Written V) where
         cond_both (fair_order o) _ _ (P (move_line o)) (λ _.
         cond_both (ltb (length j.orders) room) _ _ (P (move_line o)) (λ _. (
           ap (λ x. head (G ++ (D ++ (C ++ x)))) (listed_push move_entry j.orders o _ refl) ∙ ap head (end_move (move_line o) G D C M),
-          record { dead = never 4 1 (omega arith); picture = never 4 2 (omega arith); orders = never 4 3 (omega arith); within = tidy.within },
+          record { dead = λ y. cc; picture = λ y. cc; orders = λ y. cc; within = tidy.within },
         )) (λ _. tt)) (λ _. tt)
 
     -- one line more, by its word
@@ -309,7 +308,7 @@ module _ {V : Type 0} (k : Values V) (w : Written V) where
         natural_both P bad (λ x. row Move (Some x) (Some y) None None) x _ (λ m.
         natural_both P bad (λ y. row Move (count m) (Some y) None None) y _ (λ n. move_gains (record { action = m; element = n }))))
     more_gains Last a b c d may signs =
-        none_both P bad Last a b c d _ (refl, record { dead = never 5 1 (omega arith); picture = never 5 2 (omega arith); orders = never 5 3 (omega arith); within = tidy.within })
+        none_both P bad Last a b c d _ (refl, record { dead = λ y. cc; picture = λ y. cc; orders = λ y. cc; within = tidy.within })
     more_gains Done a b c d may signs = tt
     more_gains Area a b c d may signs = tt
     more_gains Wide a b c d may signs = tt
@@ -319,21 +318,21 @@ module _ {V : Type 0} (k : Values V) (w : Written V) where
     abbrev pub Taken : List ℕ → Draft V → Type 0
     Taken bs t = (l : Line) × (line_of bs ≡ Ok l) × (lines_by t.section t.job ≡ body_lines k w j ++ (l ∷ [])) × Tidy t
 
-    found : (bs : List ℕ) (l : Line) (r : Result (Draft V) FileFault) → line_of bs ≡ Ok l → P l r → Of (Taken bs) r
+    found : (bs : List ℕ) (l : Line) (r : Result (Draft V) FileFault) → line_of bs ≡ Ok l → P l r → IfOk r (Taken bs)
     found bs l (Ok t) is gained = (l, is, gained.0, gained.1)
     found bs l (Err f) is gained = tt
 
-    fields_taken : (bs : List ℕ) (word : Word) → word_in bs ≡ Ok word → opens s.section word ≡ true → (r : Result Line LineFault) → fields_of word bs ≡ r → Of (Taken bs) (then (of_line r) (more k w room j word))
+    fields_taken : (bs : List ℕ) (word : Word) → word_in bs ≡ Ok word → opens s.section word ≡ true → (r : Result Line LineFault) → fields_of word bs ≡ r → IfOk (then (of_line r) (more k w room j word)) (Taken bs)
     fields_taken bs word worded may (Err f) is = tt
     fields_taken bs word worded may (Ok l) is =
         let same = word_kept word bs l is in
-        let signs : AllSigned l = subst (Of AllSigned) is (fields_signed word bs) in
+        let signs : AllSigned l = IfOk-at_ok AllSigned is (fields_signed word bs) in
         found bs l _ (line_accepted bs word l worded is) (subst (λ x. P l (more k w room j x l)) same (more_gains l.word l.one l.two l.three l.four (ap (opens s.section) same ∙ may) signs))
 
     word_taken : (bs : List ℕ) (r : Result Word LineFault) → word_in bs ≡ r
-        → Of (Taken bs) (then (of_line r) (λ word. cond (opens s.section word) (then (of_line (fields_of word bs)) (more k w room j word)) (Err (fault.Line line.Word))))
+        → IfOk (then (of_line r) (λ word. cond (opens s.section word) (then (of_line (fields_of word bs)) (more k w room j word)) (Err (fault.Line line.Word)))) (Taken bs)
     word_taken bs (Err f) is = tt
-    word_taken bs (Ok word) is = cond_both (opens s.section word) _ _ (Of (Taken bs)) (λ may. fields_taken bs word is may (fields_of word bs) refl) (λ _. tt)
+    word_taken bs (Ok word) is = cond_both (opens s.section word) _ _ (λ r. IfOk r (Taken bs)) (λ may. fields_taken bs word is may (fields_of word bs) refl) (λ _. tt)
 
-    pub line_taken : (bs : List ℕ) → Of (Taken bs) (line_more k w room s bs)
+    pub line_taken : (bs : List ℕ) → IfOk (line_more k w room s bs) (Taken bs)
     line_taken bs = word_taken bs (word_in bs) refl

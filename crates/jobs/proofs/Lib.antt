@@ -1,4 +1,5 @@
 pub mod Accepted
+pub mod Codes
 pub mod Fitted
 pub mod Gains
 pub mod JobAndFile

@@ -1,7 +1,8 @@
 -- The lines of a lawful job are accepted one after another and lead to the job. Assumes nothing.
 use Rattle.std.proofs.Common.{◌≡◌, ℕ, suc, ◌+◌, ◌-◌, ◌<◌, ◌≤◌, Bool, true, false, cond, not, eqb, ltb, List, [], ◌∷◌, ◌++◌, length, set, replicate, ℤ, pos, negsuc, Some, None, Ok, Result, sym, refl, ap, ◌∙◌, subst, ⊎_elim, arith}
 use Rattle.std.proofs.lemmas.List.{append-nil, append_assoc, length-append, length-replicate, get_or_at, set_at, take_all, replicate_more}
-use Rattle.std.proofs.lemmas.Bool.{true≢false, false≢true, and_parts, and_from, and_left, and_right, not_from_true, not-false, cases_eq, le-leb, lt-ltb, eq-eqb, cond-true, cond-false}
+use Rattle.std.proofs.lemmas.List.Folds.{list_all-append}
+use Rattle.std.proofs.lemmas.Bool.{true≢false, and_parts, and_from, and_left, and_right, not_from_true, not-false, cases_eq, le-leb, lt-ltb, eq-eqb, cond-true, cond-false}
 use Rattle.std.specs.Option.{option_to_list}
 use Rattle.kinds.specs.Lattices.{Values, Lawful, not_least}
 use Rattle.kinds.specs.Numbers.{Written, Numbered}
@@ -23,7 +24,8 @@ use Rattle.plans.specs.declared.modes.Mode.TheVariants.{Strict, Weak, Independen
 use Rattle.plans.specs.declared.modes.Side.{Side}
 use Rattle.plans.specs.declared.modes.Side.TheVariants.{First, Second}
 use Rattle.plans.proofs.Entering.{list_takes, dead_takes}
-use Rattle.jobs.specs.Entries.{number_of, first_side, listed, elem_line, vect_line, dead_line, cell_line, move_line, last_line, vect_entry, dead_entry, cell_entry, move_entry, element_lines, elements_lines}
+use Rattle.lines.specs.Numbers.{number_of}
+use Rattle.jobs.specs.Entries.{first_side, listed, elem_line, vect_line, dead_line, cell_line, move_line, last_line, vect_entry, dead_entry, cell_entry, move_entry, element_lines, elements_lines}
 use Rattle.jobs.specs.Heads.{must, of_plan, none}
 use Rattle.jobs.specs.Jobs.{Job, padded, fair_order, all_fair, LawfulJob}
 use Rattle.jobs.specs.Steps.{Draft, place, opens, whole_number, newest, late, drafted, vector_more, valued, more}
@@ -50,18 +52,17 @@ first_is Strong = refl
 
 -- only the independent mode takes a vector on the second list
 second_is : (m : Mode) (z : ℤ) → allowed m Second z ≡ true → (side_of m 2 ≡ Some Second) × (eqb 2 (first_side m) ≡ false)
-second_is Strict z is = absurd (false≢true is)
-second_is Weak z is = absurd (false≢true is)
+second_is Strict z is = cc
+second_is Weak z is = cc
 second_is Independent z is = (refl, refl)
-second_is Strong z is = absurd (false≢true is)
+second_is Strong z is = cc
 
 every_one : (test : Vector → Bool) (p q : List Vector) (v : Vector) → every test (p ++ v ∷ q) ≡ true → test v ≡ true
 every_one test [] q v h = (and_parts (test v) _ h).0
 every_one test (u ∷ p) q v h = every_one test p q v (and_parts (test u) _ h).1
 
 fair_one : (p q : List Order) (o : Order) → all_fair (p ++ o ∷ q) ≡ true → fair_order o ≡ true
-fair_one [] q o h = (and_parts (fair_order o) _ h).0
-fair_one (x ∷ p) q o h = fair_one p q o (and_parts (fair_order x) _ h).1
+fair_one p q o h = (and_parts (fair_order o) _ (and_parts (all_fair p) _ (sym (list_all-append fair_order p (o ∷ q)) ∙ h)).1).0
 
 -- a vector that the list of a side takes
 pub record Taken (m : Mode) (s : Side) (vs : List Vector) (v : Vector) : Type 0 where

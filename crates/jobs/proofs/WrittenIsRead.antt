@@ -3,7 +3,7 @@ use Rattle.std.proofs.Common.{◌≡◌, ℕ, zero, suc, ◌<◌, ◌≤◌, tru
 use Rattle.std.specs.List.{flat_map}
 use Rattle.std.specs.Result.{result_map_both}
 use Rattle.std.proofs.lemmas.List.{length-append, drop_at}
-use Rattle.std.proofs.lemmas.Bool.{and_from, le-leb, eq-eqb, cond-true, cond-false}
+use Rattle.std.proofs.lemmas.Bool.{eq-eqb, cond-true, cond-false}
 use Rattle.kinds.specs.Lattices.{Values, Lawful}
 use Rattle.kinds.specs.Numbers.{Written, Numbered}
 use Rattle.grids.specs.Extents.{lawful_size}
@@ -19,15 +19,17 @@ use Rattle.plans.specs.Plans.{Design, cells_in, planned}
 use Rattle.plans.proofs.Entering.{planned_design}
 use Rattle.jobs.specs.Entries.{plat_line, last_line}
 use Rattle.jobs.specs.Files.{read_from, begun, decode}
-use Rattle.jobs.specs.Heads.{must, of_line, of_plan, at_line, none, is_plat, judged, head_in, measured}
+use Rattle.jobs.specs.Heads.{must, of_line, of_plan, at_line, none, is_plat, kind_code, kind_of, judged, head_in, measured}
 use Rattle.jobs.specs.Jobs.{Job, LawfulJob, encode}
 use Rattle.jobs.specs.Steps.{Draft, opens, more, line_more, next_by, end_by}
 use Rattle.jobs.specs.declared.faults.FileFault.{FileFault}
 use Rattle.jobs.specs.declared.faults.FileFault.TheVariants as fault
+use Rattle.jobs.specs.declared.heads.CellKind.{CellKind}
 use Rattle.jobs.specs.declared.heads.Head.{Head}
 use Rattle.jobs.specs.declared.sections.Section.{Section}
 use Rattle.jobs.specs.declared.sections.Section.TheVariants as section
 use Rattle.jobs.proofs.Fitted.{AllFit, job_fits}
+use Rattle.jobs.proofs.Codes.{code_kept, kind_found}
 use Rattle.jobs.proofs.Reaches.{step, Leads, draft, held_padded, middle_lines, job_reached}
 
 -- the bytes of a line and some after them
@@ -80,7 +82,7 @@ module _ {V : Type 0} (k : Values V) (w : Written V) where
     before_last section.Moves s u word r bs h is = is
     before_last section.Last s u word r bs h is =
         let never : Err (fault.Line line.Word) ≡ Ok u = sym (cond-false _ _ _ (nothing_after word)) ∙ h in
-        let z : ◌≡◌ {A = ℕ} 0 1 = cc in absurd (omega arith)
+        cc
 
     lines_read : (ls : List Line) (turns n : ℕ) (s : Draft V) (j : Job V) → length ls < turns → AllFit ls → Leads k w room s ls (draft section.Last j)
         → read_from k w room turns n s (flat_map line_bytes ls) ≡ Ok (draft section.Last j)
@@ -99,8 +101,12 @@ module _ {V : Type 0} (k : Values V) (w : Written V) where
     abbrev outset : Drawing → Design
     outset d = record { drawing = record { mode = d.mode; width = d.width; height = d.height; elements = [] }; dead = [] }
 
+    -- the kind that has the code
+    named : (c : CellKind) × (kind_of w.code ≡ Ok c)
+    named = kind_found w.code numbered.some_code numbered.few_codes
+
     abbrev heading : Drawing → Head
-    heading d = record { mode = mode_number d.mode; width = d.width; height = d.height; code = w.code; cells = cells_in (outset d) }
+    heading d = record { mode = mode_number d.mode; width = d.width; height = d.height; kind = named.0; cells = cells_in (outset d) }
 
     module _ (d : Drawing) (ok : lawful_size d.width d.height ≡ true) (rest : List ℕ) (fits : Fits (plat_line w.code d)) where
       is_planned : planned (mode_number d.mode) d.width d.height ≡ Ok (outset d)
@@ -108,8 +114,8 @@ module _ {V : Type 0} (k : Values V) (w : Written V) where
 
       heading_judged : judged (mode_number d.mode) d.width d.height w.code ≡ Ok (heading d)
       heading_judged =
-          cond-true _ _ _ (and_from _ _ (le-leb _ _ numbered.some_code) (le-leb _ _ numbered.few_codes))
-          ∙ ap (λ r. then (of_plan (result_map_both cells_in (λ f. f) r)) (λ n. Ok (record { mode = mode_number d.mode; width = d.width; height = d.height; code = w.code; cells = n }))) is_planned
+          then_at _ named.1
+          ∙ ap (λ r. then (of_plan (result_map_both cells_in (λ f. f) r)) (λ n. Ok (record { mode = mode_number d.mode; width = d.width; height = d.height; kind = named.0; cells = n }))) is_planned
 
       heading_read : measured (line_bytes (plat_line w.code d) ++ rest) ≡ Ok (heading d)
       heading_read =
@@ -123,8 +129,8 @@ module _ {V : Type 0} (k : Values V) (w : Written V) where
 
       -- the kind and the size of the picture are judged, and the plan is begun
       plan_begun : (size : ℕ) → size ≡ cells_in (outset d)
-          → at_line 1 (must (eqb w.code w.code) fault.OtherKind (must (eqb size (cells_in (outset d))) fault.PictureLength (of_plan (planned (mode_number d.mode) d.width d.height)))) ≡ Ok (outset d)
-      plan_begun size is = ap (at_line 1) (cond-true _ _ _ (eq-eqb w.code w.code refl) ∙ cond-true _ _ _ (eq-eqb size _ is) ∙ ap of_plan is_planned)
+          → at_line 1 (must (eqb (kind_code named.0) w.code) fault.OtherKind (must (eqb size (cells_in (outset d))) fault.PictureLength (of_plan (planned (mode_number d.mode) d.width d.height)))) ≡ Ok (outset d)
+      plan_begun size is = ap (at_line 1) (cond-true _ _ _ (eq-eqb _ _ (code_kept w.code named.0 named.1)) ∙ cond-true _ _ _ (eq-eqb size _ is) ∙ ap of_plan is_planned)
 
     pub job_written_is_read : (j : Job V) (room : ℕ) → LawfulJob j → length j.orders ≤ room → decode k w (length j.picture) room (encode k w j) ≡ Ok j
     unfolding encode

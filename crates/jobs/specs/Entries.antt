@@ -1,12 +1,13 @@
 -- What stands in the lines of a job. Assumes nothing.
-use Rattle.std.specs.Prelude.{ℕ, suc, cond, List, [], ◌∷◌, ◌++◌, ℤ, pos, negsuc, Some, None, Option}
+use Rattle.std.specs.Prelude.{ℕ, suc, cond, List, [], ◌∷◌, ◌++◌, ℤ, Some, None, Option}
 use Rattle.std.specs.Option.{option_to_list}
 use Rattle.kinds.specs.Lattices.{Values, not_least}
 use Rattle.kinds.specs.Numbers.{Written}
 use Rattle.grids.specs.declared.vectors.Vector.{Vector}
+use Rattle.lines.specs.Numbers.{number_of}
 use Rattle.lines.specs.declared.line.Line.{Line}
 use Rattle.lines.specs.declared.numbers.Number.{Number}
-use Rattle.lines.specs.declared.numbers.Number.TheVariants.{Natural, Below}
+use Rattle.lines.specs.declared.numbers.Number.TheVariants.{Natural}
 use Rattle.lines.specs.declared.words.Word.{Word}
 use Rattle.lines.specs.declared.words.Word.TheVariants.{Plat, Elem, Vect, Dead, Cell, Move, Last}
 use Rattle.plans.specs.Drawings.{Drawing, Lists}
@@ -20,10 +21,6 @@ row word a b c d = record { word = word; one = a; two = b; three = c; four = d }
 
 abbrev pub count : ℕ → Option Number
 count n = Some (Natural n)
-
-abbrev pub number_of : ℤ → Number
-number_of (pos n) = Natural n
-number_of (negsuc n) = Below (suc n)
 
 abbrev pub coordinate : ℤ → Option Number
 coordinate z = Some (number_of z)

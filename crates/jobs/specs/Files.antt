@@ -4,7 +4,7 @@ use Rattle.kinds.specs.Lattices.{Values}
 use Rattle.kinds.specs.Numbers.{Written}
 use Rattle.lines.specs.Lines.{then}
 use Rattle.plans.specs.Plans.{Design, cells_in, planned}
-use Rattle.jobs.specs.Heads.{must, of_plan, at_line, none, measured}
+use Rattle.jobs.specs.Heads.{must, of_plan, at_line, none, kind_code, measured}
 use Rattle.jobs.specs.Jobs.{Job, padded, LawfulJob, encode}
 use Rattle.jobs.specs.Steps.{Draft, next_by, end_by}
 use Rattle.jobs.specs.declared.faults.FileFault.TheVariants as fault
@@ -34,7 +34,7 @@ module _ {V : Type 0} (k : Values V) (w : Written V) where
 
   -- the plan that line 1 asks for, where the kind and the size of the picture agree with it
   abbrev pub opened : ℕ → Head → Result Design Stop
-  opened size h = at_line 1 (must (h.code == w.code) fault.OtherKind (must (size == h.cells) fault.PictureLength (of_plan (planned h.mode h.width h.height))))
+  opened size h = at_line 1 (must (kind_code h.kind == w.code) fault.OtherKind (must (size == h.cells) fault.PictureLength (of_plan (planned h.mode h.width h.height))))
 
   -- The job in some bytes, read into a picture of that size and records for so many moves. The kind and the size of the picture are
   -- judged after line 1 and before line 2.

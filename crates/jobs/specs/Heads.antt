@@ -1,5 +1,5 @@
 -- Line 1 of a file: what it holds, and how it is refused. Assumes nothing.
-use Rattle.std.specs.Prelude.{ℕ, Bool, true, false, cond, ◌&&◌, List, [], ◌∷◌, Ok, Err, Result, nat_le}
+use Rattle.std.specs.Prelude.{ℕ, zero, suc, Bool, true, false, cond, List, [], ◌∷◌, Ok, Err, Result}
 use Rattle.lines.specs.Lines.{then, word_in, fields_of}
 use Rattle.lines.specs.Numbers.{four_numbers}
 use Rattle.lines.specs.declared.faults.LineFault.{LineFault}
@@ -14,6 +14,8 @@ use Rattle.plans.specs.declared.faults.PlanFault.{PlanFault}
 use Rattle.jobs.specs.declared.faults.FileFault.{FileFault}
 use Rattle.jobs.specs.declared.faults.FileFault.TheVariants as fault
 use Rattle.jobs.specs.declared.faults.Stop.{Stop}
+use Rattle.jobs.specs.declared.heads.CellKind.{CellKind}
+use Rattle.jobs.specs.declared.heads.CellKind.TheVariants.{Touch, Level, Frames}
 use Rattle.jobs.specs.declared.heads.Head.{Head}
 
 -- a condition that is to hold, the refusal where it does not, and the answer where it does
@@ -56,11 +58,23 @@ is_plat Area = false
 is_plat Wide = false
 is_plat Stopped = false
 
+-- the code of a kind, and the kind of a code
+abbrev pub kind_code : CellKind → ℕ
+kind_code Touch = 1
+kind_code Level = 2
+kind_code Frames = 3
+
+abbrev pub kind_of : ℕ → Result CellKind FileFault
+kind_of zero = Err fault.Number
+kind_of (suc zero) = Ok Touch
+kind_of (suc (suc zero)) = Ok Level
+kind_of (suc (suc (suc zero))) = Ok Frames
+kind_of (suc (suc (suc (suc n)))) = Err fault.Number
+
 -- mode, width, height and the code of a kind, judged in this order: none below 0, the code, then as the plan would
 abbrev pub judged : ℕ → ℕ → ℕ → ℕ → Result Head FileFault
 judged mode w h code =
-    must (nat_le 1 code && nat_le code 3) fault.Number
-    (then (of_plan (cells_planned mode w h)) (λ n. Ok (record { mode = mode; width = w; height = h; code = code; cells = n })))
+    then (kind_of code) (λ kind. then (of_plan (cells_planned mode w h)) (λ n. Ok (record { mode = mode; width = w; height = h; kind = kind; cells = n })))
 
 abbrev pub head_in : Line → Result Head FileFault
 head_in l =

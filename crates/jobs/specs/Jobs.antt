@@ -1,6 +1,6 @@
 -- A job, the lines that it is written as, and which jobs can be written. Assumes nothing.
 use Rattle.std.specs.Prelude.{◌≡◌, ℕ, ◌-◌, Bool, true, ◌&&◌, List, [], ◌∷◌, ◌++◌, length, take, replicate, nat_le}
-use Rattle.std.specs.List.{flat_map}
+use Rattle.std.specs.List.{flat_map, list_all}
 use Rattle.kinds.specs.Lattices.{Values}
 use Rattle.kinds.specs.Numbers.{Written}
 use Rattle.lines.specs.Lines.{line_bytes}
@@ -25,8 +25,7 @@ abbrev pub fair_order : Order → Bool
 fair_order o = nat_le 1 o.action && (nat_le o.action 4 && nat_le o.element 99)
 
 abbrev pub all_fair : List Order → Bool
-all_fair [] = true
-all_fair (o ∷ os) = fair_order o && all_fair os
+all_fair = list_all fair_order
 
 -- a job that can be written
 pub record LawfulJob {V : Type 0} (j : Job V) : Type 0 where

@@ -5,7 +5,7 @@ ghost use Rattle.jobs.specs.declared.faults.FileFault.TheVariants as fault;
 use lines::LineFault;
 use plans::PlanFault;
 
-// Why a file is refused.
+// Why a file is refused. Some cases hold the fault of a layer below, so the numbers are no discriminants.
 #[derive(Clone, Copy, PartialEq, Debug)]
 pub enum FileFault {
     // The picture that is to be filled has not one value for each cell.
@@ -37,12 +37,12 @@ pub struct Stop {
     pub line: usize,
 }
 
-// Why a job is not written.
+// Why a job is not written, each with the number of the refusal.
 #[derive(Clone, Copy, PartialEq, Debug)]
 pub enum WriteFault {
-    PictureLength,
-    Record,
-    Output,
+    PictureLength = 21,
+    Output = 51,
+    Record = 52,
 }
 
 impl FileFault {
@@ -64,7 +64,7 @@ impl FileFault {
         }
     }
 
-    // The number that the plan gave, 0 where it gave none.
+    // The number that the plan gave, 0 where it gave none: no `Option`, since a STOP line prints the 0.
     pub fn inner(self) -> u8
         ensures { result ≡ inner_number self }
     {
@@ -80,14 +80,11 @@ impl WriteFault {
     pub fn number(self) -> u8
         ensures { result ≡ write_fault_number self }
     {
-        match self {
-            WriteFault::PictureLength => 21,
-            WriteFault::Output => 51,
-            WriteFault::Record => 52,
-        }
+        self as u8
     }
 }
 
+// The conversions are written out, since clauses name the case that `?` gives.
 impl From<LineFault> for FileFault {
     ghost from_gives = { λ f r. r ≡ fault.Line f };
 

@@ -9,7 +9,7 @@ mod sections;
 mod sides;
 
 pub use faults::{FileFault, Stop, WriteFault};
-pub use heads::Head;
+pub use heads::{CellKind, Head};
 pub use laws::job_and_file;
 pub use numbers::{natural, whole};
 pub use orders::Order;

@@ -1,4 +1,5 @@
-// Numbers of a line, as a job has them.
+// Numbers of a line, as a job has them. They are functions, since a conversion could stand only in `lines`, where a number below 0 is no
+// fault.
 ghost use Rattle.std.specs.Prelude.{◌≡◌, Some};
 ghost use Rattle.jobs.specs.Heads.{natural};
 ghost use Rattle.jobs.specs.Steps.{whole_number};

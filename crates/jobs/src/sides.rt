@@ -3,7 +3,7 @@ ghost use Rattle.jobs.specs.Entries.{first_side};
 
 use plans::Mode;
 
-// The number of the side of an element's first list; that of its second list is 2.
+// The number that a file has for the side of an element's first list; that for its second list is 2.
 pub fn first_side(mode: Mode) -> usize
     ensures { result ≡ first_side mode }
 {

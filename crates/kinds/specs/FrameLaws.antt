@@ -4,13 +4,13 @@ use Rattle.std.proofs.Common.{sym, ap, ◌∙◌, arith, mod-eq_of_lt}
 use mathlib.Core.HLevel.{is_prop→PathP}
 use Rattle.std.proofs.Math.Bridge.{le_prop}
 use Rattle.std.specs.Int.Bits.{and_self}
-use Rattle.std.proofs.lemmas.Nat.{and_comm, or_comm, and_mask}
+use Rattle.std.proofs.lemmas.Nat.{and_assoc, and_comm, or_comm, and_mask}
 use Rattle.std.proofs.lemmas.Bool.{eqb-true, eq-eqb}
 use Rattle.kinds.specs.Lattices.{Lawful}
 use Rattle.kinds.specs.Numbers.{Numbered}
 use Rattle.kinds.specs.FrameSets.{frames, frames_values, frames_number, written_frames}
 use Rattle.kinds.specs.declared.values.Frames.{Frames}
-use Rattle.kinds.specs.BitLaws.{and_assoc, and_absorbs, and_over_or}
+use Rattle.kinds.specs.BitLaws.{and_absorbs, and_over_or}
 use Rattle.kinds.specs.Made.{made, made_of}
 
 -- a set of frames is its number: the fact that it fits has one proof
@@ -24,19 +24,19 @@ frames_lawful = record {
   chain = λ x y z h i.
       let xy : bit_and x.bits y.bits ≡ x.bits = eqb-true _ _ h in
       let yz : bit_and y.bits z.bits ≡ y.bits = eqb-true _ _ i in
-      eq-eqb _ _ (ap (λ b. bit_and b z.bits) (sym xy) ∙ and_assoc x.bits y.bits z.bits ∙ ap (bit_and x.bits) yz ∙ xy);
+      eq-eqb _ _ (ap (λ b. bit_and b z.bits) (sym xy) ∙ and_assoc z.bits x.bits y.bits ∙ ap (bit_and x.bits) yz ∙ xy);
   join_left = λ x y. eq-eqb _ _ (and_absorbs x.bits y.bits);
   join_right = λ x y. eq-eqb _ _ (ap (bit_and y.bits) (or_comm x.bits y.bits) ∙ and_absorbs y.bits x.bits);
   join_lowest = λ x y z h i.
       let xz : bit_and x.bits z.bits ≡ x.bits = eqb-true _ _ h in
       let yz : bit_and y.bits z.bits ≡ y.bits = eqb-true _ _ i in
       eq-eqb _ _ (and_over_or x.bits y.bits z.bits ∙ ap (λ b. bit_or b (bit_and y.bits z.bits)) xz ∙ ap (bit_or x.bits) yz);
-  meet_left = λ x y. eq-eqb _ _ (and_comm (bit_and x.bits y.bits) x.bits ∙ sym (and_assoc x.bits x.bits y.bits) ∙ ap (λ b. bit_and b y.bits) (and_self x.bits));
-  meet_right = λ x y. eq-eqb _ _ (and_assoc x.bits y.bits y.bits ∙ ap (bit_and x.bits) (and_self y.bits));
+  meet_left = λ x y. eq-eqb _ _ (and_comm (bit_and x.bits y.bits) x.bits ∙ sym (and_assoc y.bits x.bits x.bits) ∙ ap (λ b. bit_and b y.bits) (and_self x.bits));
+  meet_right = λ x y. eq-eqb _ _ (and_assoc y.bits x.bits y.bits ∙ ap (bit_and x.bits) (and_self y.bits));
   meet_highest = λ x y z h i.
       let zx : bit_and z.bits x.bits ≡ z.bits = eqb-true _ _ h in
       let zy : bit_and z.bits y.bits ≡ z.bits = eqb-true _ _ i in
-      eq-eqb _ _ (sym (and_assoc z.bits x.bits y.bits) ∙ ap (λ b. bit_and b y.bits) zx ∙ zy);
+      eq-eqb _ _ (sym (and_assoc y.bits z.bits x.bits) ∙ ap (λ b. bit_and b y.bits) zx ∙ zy);
   least_under = λ x. refl;
   greatest_over = λ x. eq-eqb _ _ (and_mask x.bits 16 ∙ mod-eq_of_lt x.fits);
 }

@@ -22,4 +22,4 @@ module _ {V : Type 0} (limit : ℕ) (make : (n : ℕ) → n < limit → V) where
           let fits : n < limit = ltb-true n limit is in
           let same : make n fits ≡ x = cc in
           ap number (sym same) ∙ numbered n fits
-      step false is h = let z : ◌≡◌ {A = ℕ} 0 1 = cc in absurd (omega arith)
+      step false is h = cc

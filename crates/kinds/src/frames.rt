@@ -5,11 +5,11 @@ ghost use Rattle.kinds.specs.FrameLaws.{frames_lawful, frames_numbered};
 use crate::kind::{Kind, WrittenKind};
 use crate::values::Frames;
 
-impl Frames {
-    // The one set of frames that has this number.
-    fn at(bits: u16) -> Frames
-        ensures { (x : Frames) → x.bits ≡ bits → result ≡ x }
-    {
+// The set of frames that has this number.
+impl From<u16> for Frames {
+    ghost from_gives = { λ bits x. x.bits ≡ bits };
+
+    fn from(bits: u16) -> Frames {
         Frames { bits }
     }
 }
@@ -20,19 +20,19 @@ impl Kind for Frames {
     ghost lawful = { frames_lawful };
 
     fn least() -> Frames {
-        Frames::at(0)
+        Frames::from(0)
     }
 
     fn greatest() -> Frames {
-        Frames::at(65535)
+        Frames::from(65535)
     }
 
     fn join(self, other: Frames) -> Frames {
-        Frames::at(self.bits | other.bits)
+        Frames::from(self.bits | other.bits)
     }
 
     fn meet(self, other: Frames) -> Frames {
-        Frames::at(self.bits & other.bits)
+        Frames::from(self.bits & other.bits)
     }
 
     fn lies_under(self, other: Frames) -> bool {
@@ -53,10 +53,8 @@ impl WrittenKind for Frames {
         u32::from(self.bits)
     }
 
+    // That of levels is the same line; a generic one would be longer than the two, for its bounds and clauses.
     fn from_number(number: u32) -> Option<Frames> {
-        match u16::try_from(number) {
-            Ok(bits) => Some(Frames::at(bits)),
-            Err(_) => None,
-        }
+        u16::try_from(number).ok().map(Frames::from)
     }
 }

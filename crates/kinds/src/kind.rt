@@ -33,7 +33,8 @@ pub trait Kind: Copy {
     ghost lawful: { Lawful values };
 }
 
-// A kind that a file can carry: it has a code, and numbers for its values.
+// A kind that a file can carry: it has a code, and numbers for its values. The conversions are no `From` and `TryFrom`, since one record,
+// `written`, says the three together, and the law speaks of it.
 pub trait WrittenKind: Kind {
     ghost written: { Written Self };
 

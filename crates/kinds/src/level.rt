@@ -5,11 +5,11 @@ ghost use Rattle.kinds.specs.LevelLaws.{level_lawful, level_numbered};
 use crate::kind::{Kind, WrittenKind};
 use crate::values::Level;
 
-impl Level {
-    // The one level that has this number.
-    fn at(value: u8) -> Level
-        ensures { (x : Level) → x.value ≡ value → result ≡ x }
-    {
+// The level that has this number.
+impl From<u8> for Level {
+    ghost from_gives = { λ value x. x.value ≡ value };
+
+    fn from(value: u8) -> Level {
         Level { value }
     }
 }
@@ -20,23 +20,23 @@ impl Kind for Level {
     ghost lawful = { level_lawful };
 
     fn least() -> Level {
-        Level::at(0)
+        Level::from(0)
     }
 
     fn greatest() -> Level {
-        Level::at(255)
+        Level::from(255)
     }
 
     fn join(self, other: Level) -> Level {
-        Level::at(self.value.max(other.value))
+        self.max(other)
     }
 
     fn meet(self, other: Level) -> Level {
-        Level::at(self.value.min(other.value))
+        self.min(other)
     }
 
     fn lies_under(self, other: Level) -> bool {
-        self.value <= other.value
+        self <= other
     }
 }
 
@@ -54,9 +54,6 @@ impl WrittenKind for Level {
     }
 
     fn from_number(number: u32) -> Option<Level> {
-        match u8::try_from(number) {
-            Ok(value) => Some(Level::at(value)),
-            Err(_) => None,
-        }
+        u8::try_from(number).ok().map(Level::from)
     }
 }

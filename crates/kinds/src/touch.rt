@@ -17,25 +17,17 @@ impl Kind for Touch {
         Self::Yes
     }
 
+    // The same lines as levels have: `Kind` gives no default, since a kind need not be ordered in one row.
     fn join(self, other: Touch) -> Touch {
-        match self {
-            Touch::No => other,
-            Touch::Yes => Touch::Yes,
-        }
+        self.max(other)
     }
 
     fn meet(self, other: Touch) -> Touch {
-        match self {
-            Touch::No => Touch::No,
-            Touch::Yes => other,
-        }
+        self.min(other)
     }
 
     fn lies_under(self, other: Touch) -> bool {
-        match (self, other) {
-            (Touch::Yes, Touch::No) => false,
-            _ => true,
-        }
+        self <= other
     }
 }
 
@@ -49,10 +41,7 @@ impl WrittenKind for Touch {
     }
 
     fn number(self) -> u32 {
-        match self {
-            Touch::No => 0,
-            Touch::Yes => 1,
-        }
+        self as u32
     }
 
     fn from_number(number: u32) -> Option<Touch> {

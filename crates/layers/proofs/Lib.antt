@@ -1,2 +1,2 @@
-mod Distinct
+pub mod Distinct
 pub mod Killing

@@ -1,22 +1,17 @@
 -- Which steps a plate keeps where cells are dead. Assumes nothing.
-use Rattle.std.specs.Prelude.{◌≡◌, ℕ, Bool, true, false, cond, List, Some, None, Option}
+use Rattle.std.specs.Prelude.{◌≡◌, ℕ, List, Some, None, Option}
 use Rattle.std.proofs.Common.{arith}
 use Rattle.plates.specs.TwoWays.{OneSource}
 use Rattle.layers.specs.Layers.{living, without}
-use Rattle.plates.specs.Lists.{among}
 use Rattle.plates.specs.Meanings.{Meaning, Sound}
 
-unless : (b : Bool) (o : Option ℕ) (t : ℕ) → cond b None o ≡ Some t → o ≡ Some t
-unless true o t h = let z : ◌≡◌ {A = ℕ} 0 1 = cc in absurd (omega arith)
-unless false o t h = h
-
 living_some : (dead : List ℕ) (o : Option ℕ) (t : ℕ) → living dead o ≡ Some t → o ≡ Some t
-living_some dead (Some u) t h = unless (among u dead) (Some u) t h
+living_some dead (Some u) t h = grind arith
 living_some dead None t h = h
 
 -- a step that is kept is one of the plate below
 step_below : (dead : List ℕ) (m : Meaning) (e p c t : ℕ) → (without dead m).target e p c ≡ Some t → m.target e p c ≡ Some t
-step_below dead m e p c t h = living_some dead (m.target e p c) t (unless (among c dead) _ t h)
+step_below dead m e p c t h = grind (arith, living_some dead (m.target e p c) t)
 
 pub without_sound : (dead : List ℕ) (m : Meaning) → Sound m → Sound (without dead m)
 without_sound dead m s = record {

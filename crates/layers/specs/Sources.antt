@@ -1,25 +1,22 @@
 -- Which cells a place leads to a cell, and the plate with every step turned round. Assumes nothing.
-use Rattle.std.specs.Prelude.{◌≡◌, ℕ, zero, suc, ◌+◌, ◌<◌, ◌≤◌, Bool, true, false, cond, List, [], ◌∷◌, Some, None, filter, Option, ◌≢◌, refl}
+use Rattle.std.specs.Prelude.{◌≡◌, ℕ, zero, suc, ◌+◌, ◌<◌, ◌≤◌, Bool, true, false, cond, ◌∷◌, Some, None, filter, Option, ◌≢◌, refl}
 use Rattle.std.proofs.Common.{sym, ap, ◌∙◌, arith}
-use Rattle.std.specs.List.{range_with_len, AllByRecursion, slice_get}
-use Rattle.std.proofs.ByRecursion.{kept_by_passes}
-use Rattle.std.proofs.lemmas.Bool.{both_ways, eq-eqb, eqb-true}
+use Rattle.std.specs.List.{range_with_len, slice_get}
+use Rattle.std.proofs.lemmas.List.Elements.{filter_passes}
+use Rattle.std.proofs.lemmas.Bool.{both_ways}
+use Rattle.std.proofs.lemmas.Bool.Decides.{nat_tests}
 use Rattle.plates.specs.TwoWays.{OneSource, Source}
 use Rattle.layers.specs.Layers.{hits, sources, reflected}
 use Rattle.plates.specs.Meanings.{Meaning, Sound}
+use Rattle.plates.specs.Soundness.{got}
 
 hits_some : (t : ℕ) (o : Option ℕ) → hits t o ≡ true → o ≡ Some t
-hits_some t (Some u) h = ap Some (eqb-true u t h)
-hits_some t None h = let z : ◌≡◌ {A = ℕ} 0 1 = cc in absurd (omega arith)
+hits_some t (Some u) h = grind (arith, nat_tests)
+hits_some t None h = cc
 
 some_hits : (t : ℕ) (o : Option ℕ) → o ≡ Some t → hits t o ≡ true
-some_hits t (Some u) is = let same : u ≡ t = cc in eq-eqb u t same
+some_hits t (Some u) is = grind (arith, nat_tests)
 some_hits t None is = cc
-
--- the first of a list is as each is
-first_is : (P : ℕ → Type 0) (xs : List ℕ) (c : ℕ) → AllByRecursion P xs → slice_get xs 0 ≡ Some c → P c
-first_is P [] c all is = let z : ◌≡◌ {A = ℕ} 0 1 = cc in absurd (omega arith)
-first_is P (x ∷ xs) c all is = let same : x ≡ c = cc in rw same at all.0
 
 -- the one number from a on that passes a test is the first that is kept
 module _ (test : ℕ → Bool) (c : ℕ) (passes : test c ≡ true) (only : (d : ℕ) → test d ≡ true → d ≡ c) where
@@ -33,7 +30,7 @@ module _ (test : ℕ → Bool) (c : ℕ) (passes : test c ≡ true) (only : (d :
 
 -- what the search finds is led to t
 source_leads : (m : Meaning) (e p t c : ℕ) → slice_get (sources m e p t) 0 ≡ Some c → m.target e p c ≡ Some t
-source_leads m e p t c is = hits_some t _ (first_is _ _ c (kept_by_passes (λ d. hits t (m.target e p d)) (range_with_len 0 m.cells)) is)
+source_leads m e p t c is = hits_some t _ (got (λ d. hits t (m.target e p d) ≡ true) (sources m e p t) 0 c (filter_passes (λ d. hits t (m.target e p d)) (range_with_len 0 m.cells)) is)
 
 -- the one cell that is led to t is found
 source_found : (m : Meaning) → Sound m → (e p t c : ℕ) → m.target e p c ≡ Some t → ((d : ℕ) → m.target e p d ≡ Some t → d ≡ c) → slice_get (sources m e p t) 0 ≡ Some c

@@ -2,30 +2,18 @@
 ghost use Rattle.std.specs.Prelude.{◌≡◌, Some};
 ghost use Rattle.layers.specs.Deaths.{dead_of, Covers};
 ghost use Rattle.layers.specs.Layers.{living, kill_answer, killed};
-ghost use Rattle.plates.specs.Lists.{among};
 
 use crate::dead::Dead;
 use crate::faults::KillFault;
 use plates::Plate;
 use std::alloc::{AllocFailed, Global};
 
-// Whether a cell stands in a list.
-fn listed(cells: &[usize], cell: usize) -> bool
-    ensures { result ≡ among cell cells.now }
-{
-    for other in cells {
-        if *other == cell {
-            return true;
-        }
-    }
-    false
-}
-
 impl<P> Dead<P> {
     // The plate given, with no cell dead; gives it back where memory is wanting.
     pub fn new(heap: Global, lower: P) -> Result<Dead<P>, AllocFailed<P>>
         ensures { Covers lower result }
     {
+        // A `match`, since `map` and `map_err` would each take `lower`.
         match Vec::with_capacity(heap, 64) {
             Ok(dead) => Ok(Dead { lower, dead }),
             Err(_) => Err(AllocFailed { value: lower }),
@@ -43,10 +31,8 @@ impl<P> Dead<P> {
     pub(crate) fn alive(&self, cell: usize) -> Option<usize>
         ensures { result ≡ living (dead_of self.now) (Some cell) }
     {
-        if listed(self.dead_cells(), cell) {
-            return None;
-        }
-        Some(cell)
+        let lives = !self.dead.contains(&cell);
+        lives.then_some(cell)
     }
 }
 
@@ -58,11 +44,10 @@ impl<P: Plate> Dead<P> {
         if cell >= self.lower.cells() {
             return Err(KillFault::NoCell);
         }
-        let dead = self.dead_cells();
-        if listed(dead, cell) {
+        if self.dead.contains(&cell) {
             return Err(KillFault::AlreadyDead);
         }
-        if dead.len() >= 64 {
+        if self.dead.len() >= 64 {
             return Err(KillFault::TableFull);
         }
         Ok(())
@@ -70,6 +55,7 @@ impl<P: Plate> Dead<P> {
 
     // Makes a cell the last dead one; refuses, in this order and altering nothing, a cell that does not exist, one that is dead
     // already, and a 65th.
+    #[tactic(auto, using(crate::proofs::Distinct::distinct_push))]
     pub fn kill(&mut self, cell: usize) -> Result<(), KillFault>
         ensures answer { result ≡ kill_answer (P.Plate.meaning self.old.lower).cells (dead_of self.old) cell }
         ensures after { dead_of self.new ≡ killed (P.Plate.meaning self.old.lower).cells (dead_of self.old) cell }

@@ -31,6 +31,7 @@ impl<P: Plate> Plate for Dead<P> {
     }
 }
 
+// Beside `target`, which asks another question of the plate below: one function for both would take that question as a closure.
 impl<P: TwoWayPlate> TwoWayPlate for Dead<P> {
     ghost single = { λ s. without_single _ (P.Plate.meaning s.lower) (P.TwoWayPlate.single s.lower) };
 

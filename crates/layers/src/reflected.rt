@@ -1,6 +1,4 @@
-ghost use Rattle.std.specs.Prelude.{◌≡◌};
 ghost use Rattle.layers.specs.Layers.{reflected};
-ghost use Rattle.plates.specs.TwoWays.{Source};
 ghost use Rattle.layers.specs.Sources.{reflected_sound, reflected_single};
 
 use plates::{Plate, TwoWayPlate};
@@ -9,24 +7,6 @@ use plates::{Plate, TwoWayPlate};
 #[derive(Drop)]
 pub struct Reflected<P> {
     pub lower: P,
-}
-
-impl<P: TwoWayPlate> Reflected<P> {
-    // Where a step of the plate below to this cell starts.
-    fn source(&self, element: usize, place: usize, cell: usize) -> Option<usize>
-        ensures { Source (P.Plate.meaning self.now.lower) element place cell result }
-    {
-        let start = self.lower.back(element, place, cell)?;
-        Some(start)
-    }
-
-    // Where a step of the plate below from this cell ends.
-    fn end(&self, element: usize, place: usize, cell: usize) -> Option<usize>
-        ensures { result ≡ (P.Plate.meaning self.now.lower).target element place cell }
-    {
-        let end = self.lower.target(element, place, cell)?;
-        Some(end)
-    }
 }
 
 // Where a step ends is where it starts in the plate below.
@@ -48,7 +28,7 @@ impl<P: TwoWayPlate> Plate for Reflected<P> {
     }
 
     fn target(&self, element: usize, place: usize, cell: usize) -> Option<usize> {
-        self.source(element, place, cell)
+        self.lower.back(element, place, cell)
     }
 }
 
@@ -56,6 +36,6 @@ impl<P: TwoWayPlate> TwoWayPlate for Reflected<P> {
     ghost single = { λ s. reflected_single (P.Plate.meaning s.lower) };
 
     fn back(&self, element: usize, place: usize, cell: usize) -> Option<usize> {
-        self.end(element, place, cell)
+        self.lower.target(element, place, cell)
     }
 }

@@ -1,6 +1,5 @@
 -- The lengths of the parts of a line. Assumes nothing.
-use Rattle.std.proofs.Common.{◌≡◌, ℕ, zero, suc, ◌+◌, ◌/◌, ◌%◌, eqb, List, [], ◌∷◌, ◌++◌, length, Option, refl, arith}
-use Rattle.std.proofs.lemmas.Bool.{cond_both}
+use Rattle.std.proofs.Common.{◌≡◌, ℕ, zero, suc, ◌/◌, length, Option, refl, arith}
 use Rattle.std.proofs.lemmas.List.{length-append}
 use Rattle.lines.specs.declared.line.Line.{Line}
 use Rattle.lines.specs.declared.numbers.Number.{Number}
@@ -13,8 +12,7 @@ use Rattle.lines.specs.Words.{letters}
 length_columns : (mark k n : ℕ) → length (columns mark k n) ≡ k
 length_columns mark zero n = refl
 length_columns mark (suc k) n =
-    cond_both (eqb n 0) _ _ (λ xs. length xs ≡ suc k) (λ _. omega (arith, length-append (columns 32 k 0) (mark ∷ []), length_columns 32 k 0))
-    (λ _. omega (arith, length-append (columns mark k (n / 10)) ((48 + n % 10) ∷ []), length_columns mark k (n / 10)))
+    grind (arith, length-append {A = ℕ}, length_columns 32 k 0, length_columns mark k (n / 10))
 
 pub length_field : (o : Option Number) → length (field_bytes o) ≡ 6
 unfolding field_bytes
@@ -33,13 +31,6 @@ length_letters Area = refl
 length_letters Wide = refl
 length_letters Stop = refl
 
--- the length of five parts and a line feed
-pub length_parts : (w a b c d r : List ℕ) → length w ≡ 4 → length a ≡ 6 → length b ≡ 6 → length c ≡ 6 → length d ≡ 6 → length (w ++ (a ++ (b ++ (c ++ (d ++ r))))) ≡ 28 + length r
-length_parts w a b c d r lw la lb lc ld =
-    omega (arith, length-append w (a ++ (b ++ (c ++ (d ++ r)))), length-append a (b ++ (c ++ (d ++ r))), length-append b (c ++ (d ++ r)), length-append c (d ++ r), length-append d r)
-
 pub length_line : (l : Line) → length (line_bytes l) ≡ 29
 unfolding line_bytes
-length_line l =
-    length_parts (letters l.word) (field_bytes l.one) (field_bytes l.two) (field_bytes l.three) (field_bytes l.four) (10 ∷ [])
-    (length_letters l.word) (length_field l.one) (length_field l.two) (length_field l.three) (length_field l.four)
+length_line l = omega (arith, length-append {A = ℕ}, length_letters, length_field)

@@ -1,3 +1,5 @@
+mod Due
+pub mod Instances
 mod Lengths
 mod Parts
 mod SixColumns

@@ -1,6 +1,7 @@
 -- A line and its parts: where the fields and the line feed stand. Assumes nothing.
 use Rattle.std.proofs.Common.{◌≡◌, ℕ, zero, suc, ◌+◌, ◌-◌, ◌/◌, ◌%◌, ◌≤◌, Bool, true, false, cond, eqb, List, [], ◌∷◌, ◌++◌, length, take, drop, Some, None, Option, sym, refl, ap, ◌∙◌, append_assoc, zero-add, arith}
-use Rattle.std.proofs.lemmas.Bool.{eqb-true, ne_eqb, cond_both, cond-false}
+use Rattle.std.proofs.lemmas.Bool.Decides.{nat_tests}
+use Rattle.std.proofs.lemmas.Bool.{eqb-true}
 use Rattle.std.proofs.lemmas.List.{length-append, length-drop, take_at, drop_at, drop-drop, take-append-drop}
 use Rattle.std.specs.List.{between}
 use Rattle.lines.specs.declared.numbers.Number.{Number}
@@ -16,13 +17,11 @@ use Rattle.lines.specs.Words.{letters}
 clear : (mark k n i j : ℕ) (ys : List ℕ) → eqb mark 10 ≡ false → i ≡ k + j → feed_at i (columns mark k n ++ ys) ≡ feed_at j ys
 clear mark zero n i j ys other is = ap (λ x. feed_at x ys) (is ∙ zero-add j)
 clear mark (suc k) n i j ys other is =
-    cond_both (eqb n 0) _ _ (λ xs. feed_at i (xs ++ ys) ≡ feed_at j ys)
-    (λ _. ap (feed_at i) (append_assoc (columns 32 k 0) (mark ∷ []) ys) ∙ clear 32 k 0 i (suc j) (mark ∷ ys) refl (omega arith) ∙ cond-false (eqb mark 10) _ _ other)
-    (λ _. ap (feed_at i) (append_assoc (columns mark k (n / 10)) ((48 + n % 10) ∷ []) ys) ∙ clear mark k (n / 10) i (suc j) ((48 + n % 10) ∷ ys) other (omega arith) ∙ cond-false (eqb (48 + n % 10) 10) _ _ (ne_eqb _ 10 (λ e. omega arith)))
+    grind (arith, nat_tests, append_assoc {A = ℕ}, clear 32 k 0 i (suc j) (mark ∷ ys), clear mark k (n / 10) i (suc j) ((48 + n % 10) ∷ ys))
 
 mark_clear : (o : Option Number) → eqb (mark_of o) 10 ≡ false
 mark_clear None = refl
-mark_clear (Some (Natural n)) = cond_both (eqb n 0) 48 32 (λ m. eqb m 10 ≡ false) (λ _. refl) (λ _. refl)
+mark_clear (Some (Natural n)) = grind (arith, nat_tests)
 mark_clear (Some (Below n)) = refl
 
 pub letters_clear : (w : Word) (ys : List ℕ) → feed_at 28 (letters w ++ ys) ≡ feed_at 24 ys
@@ -45,18 +44,18 @@ field_clear o i j ys is = clear (mark_of o) 6 (size_of o) i j ys (mark_clear o) 
 -- parts
 
 part : (p q r bs : List ℕ) (i j : ℕ) → bs ≡ p ++ (q ++ r) → length p ≡ i → length q ≡ j - i → between i j bs ≡ q
-part p q r bs i j is lp lq = ap (λ xs. take (j - i) (drop i xs)) is ∙ ap (take (j - i)) (drop_at p (q ++ r) i lp) ∙ take_at q r (j - i) lq
+part p q r bs i j is lp lq = grind (arith, drop_at p (q ++ r) i, take_at q r (j - i))
 
 cut : (i j : ℕ) (bs : List ℕ) → i ≤ j → drop i bs ≡ between i j bs ++ drop j bs
 cut i j bs le = sym (take-append-drop (j - i) (drop i bs)) ∙ ap (λ xs. between i j bs ++ xs) (drop-drop (j - i) i bs ∙ ap (λ n. drop n bs) (omega arith))
 
 fed : (k : ℕ) (bs : List ℕ) → feed_at k bs ≡ true → drop k bs ≡ 10 ∷ drop (suc k) bs
-fed k [] is = let z : ◌≡◌ {A = ℕ} 0 1 = cc in absurd (omega arith)
+fed k [] is = absurd cc
 fed zero (b ∷ bs) is = ap (λ x. x ∷ bs) (eqb-true b 10 is)
 fed (suc k) (b ∷ bs) is = fed k bs (rest (eqb b 10) is)
   where
     rest : (t : Bool) → cond t false (feed_at k bs) ≡ true → feed_at k bs ≡ true
-    rest true is = let z : ◌≡◌ {A = ℕ} 0 1 = cc in absurd (omega arith)
+    rest true is = absurd cc
     rest false is = is
 
 -- bytes with a line feed at 28 are 29 at least
@@ -72,13 +71,13 @@ module _ (w a b c d r : List ℕ) (lw : length w ≡ 4) (la : length a ≡ 6) (l
   is_one = part w a _ all 4 10 refl lw la
 
   pub is_two : between 10 16 all ≡ b
-  is_two = part (w ++ a) b (c ++ (d ++ r)) all 10 16 (simp append_assoc) (omega (arith, length-append w a)) lb
+  is_two = part (w ++ a) b (c ++ (d ++ r)) all 10 16 (simp append_assoc) (omega (arith, length-append {A = ℕ})) lb
 
   pub is_three : between 16 22 all ≡ c
-  is_three = part (w ++ (a ++ b)) c (d ++ r) all 16 22 (simp append_assoc) (omega (arith, length-append w (a ++ b), length-append a b)) lc
+  is_three = part (w ++ (a ++ b)) c (d ++ r) all 16 22 (simp append_assoc) (omega (arith, length-append {A = ℕ})) lc
 
   pub is_four : between 22 28 all ≡ d
-  is_four = part (w ++ (a ++ (b ++ c))) d r all 22 28 (simp append_assoc) (omega (arith, length-append w (a ++ (b ++ c)), length-append a (b ++ c), length-append b c)) ld
+  is_four = part (w ++ (a ++ (b ++ c))) d r all 22 28 (simp append_assoc) (omega (arith, length-append {A = ℕ})) ld
 
 pub rejoined : (bs : List ℕ) → feed_at 28 bs ≡ true → bs ≡ take 4 bs ++ (between 4 10 bs ++ (between 10 16 bs ++ (between 16 22 bs ++ (between 22 28 bs ++ (10 ∷ drop 29 bs)))))
 rejoined bs feed =

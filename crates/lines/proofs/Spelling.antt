@@ -1,10 +1,12 @@
 -- A word and its four letters fix each other. Assumes nothing.
-use Rattle.std.proofs.Common.{◌≡◌, ℕ, true, List, [], ◌∷◌, length, get_or, Ok, Err, Result, sym, refl, arith}
-use Rattle.std.proofs.lemmas.Bool.{eqb-true, and_parts, cond_both}
+use Rattle.std.proofs.Common.{◌≡◌, ℕ, true, List, length, Ok, Err, Result, refl, arith, tests}
+use Rattle.std.proofs.lemmas.Grind.{elements}
+use Rattle.std.proofs.lemmas.Bool.{cond_both}
 use Rattle.lines.specs.declared.faults.LineFault.{LineFault}
 use Rattle.lines.specs.declared.words.Word.{Word}
 use Rattle.lines.specs.declared.words.Word.TheVariants.{Plat, Elem, Vect, Dead, Cell, Move, Last, Done, Area, Wide, Stop}
 use Rattle.lines.specs.Words.{letters, is, word_of}
+use Rattle.lines.proofs.Lengths.{length_letters}
 
 pub word_reads : (w : Word) → word_of (letters w) ≡ Ok w
 word_reads Plat = refl
@@ -19,21 +21,9 @@ word_reads Area = refl
 word_reads Wide = refl
 word_reads Stop = refl
 
--- a list of four is its elements
-four : (xs : List ℕ) (a b c d : ℕ) → length xs ≡ 4 → get_or xs 0 0 ≡ a → get_or xs 1 0 ≡ b → get_or xs 2 0 ≡ c → get_or xs 3 0 ≡ d → a ∷ b ∷ c ∷ d ∷ [] ≡ xs
-four [] a b c d n p q r s = absurd (omega arith)
-four (w ∷ []) a b c d n p q r s = absurd (omega arith)
-four (w ∷ x ∷ []) a b c d n p q r s = absurd (omega arith)
-four (w ∷ x ∷ y ∷ []) a b c d n p q r s = absurd (omega arith)
-four (w ∷ x ∷ y ∷ z ∷ []) a b c d n p q r s = sym (λ i. p i ∷ q i ∷ r i ∷ s i ∷ [])
-four (w ∷ x ∷ y ∷ z ∷ v ∷ vs) a b c d n p q r s = absurd (omega arith)
-
-spelled : (w : Word) (xs : List ℕ) → length xs ≡ 4 → is w xs ≡ true → (get_or (letters w) 0 0) ∷ (get_or (letters w) 1 0) ∷ (get_or (letters w) 2 0) ∷ (get_or (letters w) 3 0) ∷ [] ≡ xs
+spelled : (w : Word) (xs : List ℕ) → length xs ≡ 4 → is w xs ≡ true → letters w ≡ xs
 spelled w xs n y =
-    let p = and_parts _ _ y in
-    let q = and_parts _ _ p.1 in
-    let r = and_parts _ _ q.1 in
-    four xs _ _ _ _ n (eqb-true _ _ p.0) (eqb-true _ _ q.0) (eqb-true _ _ r.0) (eqb-true _ _ r.1)
+    grind (arith, tests, elements, length_letters w)
 
 -- the letters of the word that is read are the columns
 abbrev pub Named : List ℕ → Result Word LineFault → Type 0

@@ -1,7 +1,7 @@
 -- A line and its 29 bytes fix each other. Assumes nothing.
-use Rattle.std.proofs.Common.{◌≡◌, ℕ, ◌<◌, Bool, true, false, cond, ltb, List, ◌∷◌, ◌++◌, length, take, drop, Ok, Err, Result, sym, refl, ap, ◌∙◌, subst, arith}
-use Rattle.std.proofs.lemmas.Bool.{ltb-true, cond-true, cond-false}
-use Rattle.std.proofs.lemmas.List.{length-take-le, take_at}
+use Rattle.std.proofs.Common.{◌≡◌, ℕ, ◌<◌, ◌≤◌, Bool, true, false, cond, ltb, List, ◌∷◌, ◌++◌, length, take, drop, Ok, Err, Result, sym, refl, ap, ◌∙◌, subst, arith}
+use Rattle.std.proofs.lemmas.Bool.{le-ltb, cond-true, cond-false}
+use Rattle.std.proofs.lemmas.List.{length-append, length-take-le, take_at}
 use Rattle.std.proofs.lemmas.List.Edits.{length-between}
 use Rattle.std.specs.List.{between}
 use Rattle.lines.specs.declared.faults.LineFault.TheVariants.{Frame}
@@ -10,8 +10,8 @@ use Rattle.lines.specs.declared.words.Word.{Word}
 use Rattle.lines.specs.Fields.{field_bytes, field_of}
 use Rattle.lines.specs.Lines.{line_bytes, Fits, feed_at, then, word_in, fields_of, line_of}
 use Rattle.lines.specs.Words.{letters, word_of}
-use Rattle.lines.proofs.SixColumns.{field_written_is_read, field_read_is_written, refused}
-use Rattle.lines.proofs.Lengths.{length_letters, length_field, length_parts, length_line}
+use Rattle.lines.proofs.SixColumns.{field_written_is_read, field_read_is_written}
+use Rattle.lines.proofs.Lengths.{length_letters, length_field, length_line}
 use Rattle.lines.proofs.Parts.{letters_clear, field_clear, long_enough, is_one, is_two, is_three, is_four, rejoined, flat}
 use Rattle.lines.proofs.Spelling.{word_reads, Named, word_is}
 
@@ -22,19 +22,19 @@ line_length l = length_line l
 
 pub then_ok : {A B E : Type 0} (r : Result A E) (f : A → Result B E) (y : B) → then r f ≡ Ok y → (x : A) × (r ≡ Ok x) × (f x ≡ Ok y)
 then_ok (Ok x) f y is = (x, refl, is)
-then_ok (Err e) f y is = refused is
+then_ok (Err e) f y is = absurd cc
 
 pub then_at : {A B E : Type 0} {r : Result A E} {x : A} (f : A → Result B E) → r ≡ Ok x → then r f ≡ f x
 then_at f is = ap (λ r. then r f) is
 
 -- what is accepted past a test that refuses
 left_of : {A E : Type 0} (t : Bool) (e : E) (r : Result A E) (y : A) → cond t (Err e) r ≡ Ok y → r ≡ Ok y
-left_of true e r y is = refused is
+left_of true e r y is = absurd cc
 left_of false e r y is = is
 
 right_of : {A E : Type 0} (t : Bool) (e : E) (r : Result A E) (y : A) → cond t r (Err e) ≡ Ok y → (t ≡ true) × (r ≡ Ok y)
 right_of true e r y is = (refl, is)
-right_of false e r y is = refused is
+right_of false e r y is = absurd cc
 
 -- what the four fields hold
 pub record Held (w : Word) (bs : List ℕ) (l : Line) : Type 0 where
@@ -72,15 +72,12 @@ fields_read : (l : Line) (w a b c d r : List ℕ) → length w ≡ 4 → length 
     → field_of a ≡ Ok l.one → field_of b ≡ Ok l.two → field_of c ≡ Ok l.three → field_of d ≡ Ok l.four
     → fields_of l.word (w ++ (a ++ (b ++ (c ++ (d ++ r))))) ≡ Ok l
 fields_read l w a b c d r lw la lb lc ld lr ha hb hc hd =
-    cond-false _ _ _ (enough (ltb (length (w ++ (a ++ (b ++ (c ++ (d ++ r)))))) 29) refl)
+    let long : 29 ≤ length (w ++ (a ++ (b ++ (c ++ (d ++ r))))) = omega (arith, length-append {A = ℕ}) in
+    cond-false _ _ _ (le-ltb _ 29 long)
     ∙ then_at _ (ap field_of (is_one w a b c d r lw la lb lc ld) ∙ ha)
     ∙ then_at _ (ap field_of (is_two w a b c d r lw la lb lc ld) ∙ hb)
     ∙ then_at _ (ap field_of (is_three w a b c d r lw la lb lc ld) ∙ hc)
     ∙ then_at _ (ap field_of (is_four w a b c d r lw la lb lc ld) ∙ hd)
-  where
-    enough : (t : Bool) → ltb (length (w ++ (a ++ (b ++ (c ++ (d ++ r)))))) 29 ≡ t → t ≡ false
-    enough false is = refl
-    enough true is = let lt = ltb-true _ 29 is in absurd (omega (arith, length_parts w a b c d r lw la lb lc ld))
 
 pub fields_found : (l : Line) (rest : List ℕ) → Fits l → fields_of l.word (line_bytes l ++ rest) ≡ Ok l
 unfolding line_bytes

@@ -11,7 +11,8 @@ fn marked(value: Option<Number>) -> (u8, usize)
 {
     match value {
         None => (b' ', 0),
-        Some(Number::Natural(n)) => { if n == 0 { (b'0', 0) } else { (b' ', n) } }
+        Some(Number::Natural(0)) => (b'0', 0),
+        Some(Number::Natural(n)) => (b' ', n),
         Some(Number::Below(n)) => (b'-', n),
     }
 }
@@ -22,9 +23,8 @@ pub(crate) fn field_columns(value: Option<Number>) -> [u8; 6]
 {
     let (mut mark, mut n) = marked(value);
     let mut out = [b' '; 6];
-    let mut k = 6;
-    while k > 0 {
-        k -= 1;
+    // By the index, since of what `iter_mut` under a `rev` lends a proof knows only the length afterwards.
+    for k in (0..6).rev() {
         if n == 0 {
             out[k] = mark;
             mark = b' ';

@@ -6,7 +6,7 @@ use crate::faults::LineFault;
 use crate::numbers::Number;
 
 // What the columns read so far hold.
-#[derive(Clone, Copy)]
+#[derive(Clone, Copy, PartialEq, Debug)]
 pub enum Seen {
     Blank,
     Minus,
@@ -20,48 +20,44 @@ fn longer(n: usize, b: u8) -> Result<usize, LineFault>
     requires { n < 100000 }
     ensures { result ≡ longer_of n b }
 {
-    if b < b'0' || b > b'9' {
+    if !b.is_ascii_digit() {
         return Err(LineFault::Field);
     }
     Ok(n * 10 + usize::from(b - b'0'))
 }
 
-// What the columns hold with one more byte.
-fn next(seen: Seen, b: u8) -> Result<Seen, LineFault>
-    requires { Short seen 100000 }
-    ensures is { result ≡ next_of seen b }
-    ensures short { (n : ℕ) → Short seen n → IfOk result (λ s. Short s (n * 10)) }
-{
-    match seen {
-        Seen::Blank => match b {
-            b' ' => Ok(Seen::Blank),
-            b'-' => Ok(Seen::Minus),
-            b'0' => Ok(Seen::Zero),
-            b'1'..=b'9' => Ok(Seen::Plus(usize::from(b - b'0'))),
+impl Seen {
+    // What the columns hold with one more byte.
+    fn next(self, b: u8) -> Result<Seen, LineFault>
+        requires { Short self 100000 }
+        ensures is { result ≡ next_of self b }
+        ensures short { (n : ℕ) → Short self n → IfOk result (λ s. Short s (n * 10)) }
+    {
+        match (self, b) {
+            (Seen::Blank, b' ') => Ok(Seen::Blank),
+            (Seen::Blank, b'-') => Ok(Seen::Minus),
+            (Seen::Blank, b'0') => Ok(Seen::Zero),
+            (Seen::Blank, b'1'..=b'9') => Ok(Seen::Plus(usize::from(b - b'0'))),
+            (Seen::Minus, b'1'..=b'9') => Ok(Seen::Negative(usize::from(b - b'0'))),
+            (Seen::Plus(n), _) => Ok(Seen::Plus(longer(n, b)?)),
+            (Seen::Negative(n), _) => Ok(Seen::Negative(longer(n, b)?)),
             _ => Err(LineFault::Field),
-        },
-        Seen::Minus => match b {
-            b'1'..=b'9' => Ok(Seen::Negative(usize::from(b - b'0'))),
-            _ => Err(LineFault::Field),
-        },
-        Seen::Zero => Err(LineFault::Field),
-        Seen::Plus(n) => Ok(Seen::Plus(longer(n, b)?)),
-        Seen::Negative(n) => Ok(Seen::Negative(longer(n, b)?)),
+        }
     }
-}
 
-// What six columns hold: a number, none where they are blank, or a fault where a minus has no digits.
-fn end(seen: Seen) -> Result<Option<Number>, LineFault>
-    requires { Short seen 1000000 }
-    ensures is { result ≡ end_of seen }
-    ensures fits { IfOk result Fitting }
-{
-    match seen {
-        Seen::Blank => Ok(None),
-        Seen::Minus => Err(LineFault::Field),
-        Seen::Zero => Ok(Some(Number::Natural(0))),
-        Seen::Plus(n) => Ok(Some(Number::Natural(n))),
-        Seen::Negative(n) => Ok(Some(Number::Below(n))),
+    // What six columns hold: a number, none where they are blank, or a fault where a minus has no digits.
+    fn end(self) -> Result<Option<Number>, LineFault>
+        requires { Short self 1000000 }
+        ensures is { result ≡ end_of self }
+        ensures fits { IfOk result Fitting }
+    {
+        match self {
+            Seen::Blank => Ok(None),
+            Seen::Minus => Err(LineFault::Field),
+            Seen::Zero => Ok(Some(Number::Natural(0))),
+            Seen::Plus(n) => Ok(Some(Number::Natural(n))),
+            Seen::Negative(n) => Ok(Some(Number::Below(n))),
+        }
     }
 }
 
@@ -71,17 +67,9 @@ pub(crate) fn field(columns: &[u8]) -> Result<Option<Number>, LineFault>
     ensures is { result ≡ field_of columns.now }
     ensures fits { IfOk result Fitting }
 {
-    let mut at = 0;
     let mut seen = Seen::Blank;
-    let found = loop {
-        if at == 6 {
-            break end(seen);
-        }
-        match next(seen, columns[at]) {
-            Ok(s) => seen = s,
-            Err(f) => break Err(f),
-        }
-        at += 1;
-    };
-    found
+    for b in columns {
+        seen = seen.next(*b)?;
+    }
+    seen.end()
 }

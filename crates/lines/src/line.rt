@@ -1,11 +1,12 @@
-ghost use Rattle.std.specs.Prelude.{◌≡◌};
-ghost use Rattle.lines.specs.Numbers.{no_number, one_number, two_numbers, four_numbers};
+ghost use Rattle.std.specs.Prelude.{◌≡◌, ◌≤◌};
+ghost use Rattle.lines.specs.Numbers.{four_fields, numbers_of};
 
 use crate::faults::LineFault;
 use crate::numbers::Number;
 use crate::words::Word;
 
-// A word and what the four fields hold; a blank field holds none.
+// A word and what the four fields hold; a blank field holds none. The fields are no array: a clause sees an array as a list of any
+// length, so each definition of a line would have to say that there are four.
 #[derive(Clone, Copy, PartialEq, Debug)]
 pub struct Line {
     pub word: Word,
@@ -15,41 +16,17 @@ pub struct Line {
     pub four: Option<Number>,
 }
 
-// Each answers the numbers of the first fields, and refuses where one of them is blank or one of the other fields is filled.
 impl Line {
-    pub fn no_number(self) -> Result<(), LineFault>
-        ensures { result ≡ no_number self }
+    // The numbers of the first N fields. Refuses where one of them is blank or one of the other fields is filled.
+    pub fn numbers<const N: usize>(self) -> Result<[Number; N], LineFault>
+        requires { N ≤ 4 }
+        ensures { result ≡ numbers_of N (four_fields self) }
     {
-        match (self.one, self.two, self.three, self.four) {
-            (None, None, None, None) => Ok(()),
-            _ => Err(LineFault::Field),
+        let fields = [self.one, self.two, self.three, self.four];
+        let (due, rest) = fields.split_first_chunk().unwrap();
+        if rest.iter().any(|field| field.is_some()) {
+            return Err(LineFault::Field);
         }
-    }
-
-    pub fn one_number(self) -> Result<Number, LineFault>
-        ensures { result ≡ one_number self }
-    {
-        match (self.one, self.two, self.three, self.four) {
-            (Some(a), None, None, None) => Ok(a),
-            _ => Err(LineFault::Field),
-        }
-    }
-
-    pub fn two_numbers(self) -> Result<(Number, Number), LineFault>
-        ensures { result ≡ two_numbers self }
-    {
-        match (self.one, self.two, self.three, self.four) {
-            (Some(a), Some(b), None, None) => Ok((a, b)),
-            _ => Err(LineFault::Field),
-        }
-    }
-
-    pub fn four_numbers(self) -> Result<(Number, Number, Number, Number), LineFault>
-        ensures { result ≡ four_numbers self }
-    {
-        match (self.one, self.two, self.three, self.four) {
-            (Some(a), Some(b), Some(c), Some(d)) => Ok((a, b, c, d)),
-            _ => Err(LineFault::Field),
-        }
+        due.try_map(|field| field.ok_or(LineFault::Field))
     }
 }

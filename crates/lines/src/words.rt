@@ -1,4 +1,4 @@
-ghost use Rattle.std.specs.Prelude.{◌≡◌, length};
+ghost use Rattle.std.specs.Prelude.{◌≡◌};
 ghost use Rattle.lines.specs.Words.{letters, word_of};
 
 use crate::faults::LineFault;
@@ -19,29 +19,32 @@ pub enum Word {
     Stop,
 }
 
-// The word that stands in four columns.
-pub(crate) fn named(columns: &[u8]) -> Result<Word, LineFault>
-    requires { length columns.now ≡ 4 }
-    ensures { result ≡ word_of columns.now }
-{
-    match columns {
-        b"PLAT" => Ok(Word::Plat),
-        b"ELEM" => Ok(Word::Elem),
-        b"VECT" => Ok(Word::Vect),
-        b"DEAD" => Ok(Word::Dead),
-        b"CELL" => Ok(Word::Cell),
-        b"MOVE" => Ok(Word::Move),
-        b"LAST" => Ok(Word::Last),
-        b"DONE" => Ok(Word::Done),
-        b"AREA" => Ok(Word::Area),
-        b"WIDE" => Ok(Word::Wide),
-        b"STOP" => Ok(Word::Stop),
-        _ => Err(LineFault::Word),
+// The word of four letters.
+impl TryFrom<&[u8; 4]> for Word {
+    type Error = LineFault;
+
+    ghost try_from_gives = { λ bs r. r ≡ word_of bs.now };
+
+    fn try_from(letters: &[u8; 4]) -> Result<Word, LineFault> {
+        match letters {
+            b"PLAT" => Ok(Word::Plat),
+            b"ELEM" => Ok(Word::Elem),
+            b"VECT" => Ok(Word::Vect),
+            b"DEAD" => Ok(Word::Dead),
+            b"CELL" => Ok(Word::Cell),
+            b"MOVE" => Ok(Word::Move),
+            b"LAST" => Ok(Word::Last),
+            b"DONE" => Ok(Word::Done),
+            b"AREA" => Ok(Word::Area),
+            b"WIDE" => Ok(Word::Wide),
+            b"STOP" => Ok(Word::Stop),
+            _ => Err(LineFault::Word),
+        }
     }
 }
 
 impl Word {
-    // The four letters.
+    // The four letters: a method as plain as a `From` for an array would be.
     pub(crate) fn bytes(self) -> [u8; 4]
         ensures { result ≡ letters self }
     {

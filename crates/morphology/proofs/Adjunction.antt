@@ -1,8 +1,9 @@
 -- Dilating and eroding by one element are adjoint. Assumes nothing.
-use Rattle.std.proofs.Common.{◌≡◌, ℕ, ◌<◌, List, [], ◌∷◌, map, Some, sym, ◌∙◌, subst, arith}
-use Rattle.std.specs.List.{AllByRecursion}
+use Rattle.std.proofs.Common.{◌≡◌, ℕ, ◌<◌, List, map, Some, sym, ◌∙◌, subst, arith}
+use Rattle.std.specs.List.{All}
 use Rattle.std.proofs.lemmas.List.FromFn.{length-map-range_with_len, get_or-map-range_with_len}
-use Rattle.std.proofs.ByRecursion.{All-map}
+use Rattle.std.proofs.lemmas.List.{get_or-map, length-map}
+use Rattle.std.proofs.lemmas.List.Elements.{All-map}
 use Rattle.kinds.specs.Lattices.{Values, Lawful, Under}
 use Rattle.plates.specs.Meanings.{Meaning, Sound}
 use Rattle.morphology.specs.Pictures.{Below, at}
@@ -13,9 +14,8 @@ use Rattle.morphology.proofs.Joins.{join_all_lowest, join_all_over, meet_all_hig
 use Rattle.morphology.proofs.Orders.{below_itself, below_chain, below_equal}
 use Rattle.morphology.proofs.Reaches.{reached_all, reached_each, reaching_all, reaching_each}
 
-map_all : {X Y : Type 0} (P : X → Type 0) (f : Y → X) (ys : List Y) → AllByRecursion P (map f ys) → AllByRecursion (λ y. P (f y)) ys
-map_all P f [] all = tt
-map_all P f (y ∷ ys) all = (all.0, map_all P f ys all.1)
+map_all : {X Y : Type 0} (P : X → Type 0) (f : Y → X) (ys : List Y) → All P (map f ys) → All (λ y. P (f y)) ys
+map_all P f ys all i d lt = grind (arith, get_or-map f ys i d (f d) lt, length-map ys f, all i (f d))
 
 module _ {V : Type 0} (k : Values V) (l : Lawful k) (m : Meaning) (s : Sound m) where
   pub pictures : Order (Below k)

@@ -1,13 +1,14 @@
 -- A history ends where its accepted moves lead; so it keeps the order, and dilates and erodes are adjoint. Assumes nothing.
-use Rattle.std.proofs.Common.{◌≡◌, ℕ, ◌↔◌, List, [], ◌∷◌, ◌++◌, map, reverse, take, Some, None, Option, sym, refl, ap, ◌∙◌, subst, ap₂}
+use Rattle.std.proofs.Common.{◌≡◌, ℕ, ◌↔◌, List, [], ◌∷◌, ◌++◌, map, reverse, take, sym, refl, ◌∙◌, subst, arith}
 use mathlib.Core.List.{reverse-cons}
 use Rattle.std.specs.Option.{option_to_list}
+use Rattle.std.proofs.lemmas.Grind.{common_steps}
 use Rattle.std.proofs.lemmas.List.{map-append}
 use Rattle.kinds.specs.Lattices.{Values, Lawful}
 use Rattle.plates.specs.Meanings.{Meaning, Sound}
 use Rattle.morphology.specs.Pictures.{Below}
 use Rattle.morphology.specs.Moves.{dilated, eroded}
-use Rattle.morphology.specs.Histories.{Call, Step, by, answer, step, accepted, made, stepped, after, end, answers}
+use Rattle.morphology.specs.Histories.{Call, Step, by, step, accepted, made, after, end, answers}
 use Rattle.morphology.specs.Statements.{Footprint, KeepsUnder}
 use Rattle.morphology.specs.declared.words.Move.{Move}
 use Rattle.morphology.specs.declared.words.Move.TheVariants.{Dilate, Erode, Open, Close}
@@ -48,11 +49,7 @@ module _ {V : Type 0} (k : Values V) (l : Lawful k) (m : Meaning) (s : Sound m) 
 
   -- a call leads where its step does, if it takes one
   after_walked : (c : Call) (a : List V) → Footprint m a → after k m c a ≡ walked (option_to_list (step m m.cells c)) a
-  after_walked c a fa = ap (λ n. stepped k m (step m n c) a) fa ∙ go (step m m.cells c)
-    where
-      go : (o : Option Step) → stepped k m o a ≡ walked (option_to_list o) a
-      go None = refl
-      go (Some x) = refl
+  after_walked c a fa = grind (arith, common_steps)
 
   after_fits : (c : Call) (a : List V) → Footprint m a → Footprint m (after k m c a)
   after_fits c a fa = subst (Footprint m) (sym (after_walked c a fa)) (walked_fits (option_to_list (step m m.cells c)) a fa)
@@ -60,19 +57,15 @@ module _ {V : Type 0} (k : Values V) (l : Lawful k) (m : Meaning) (s : Sound m) 
   pub end_walked : (cs : List Call) (a : List V) → Footprint m a → end k m cs a ≡ walked (accepted m cs) a
   end_walked [] a fa = refl
   end_walked (c ∷ cs) a fa =
-      end_walked cs (after k m c a) (after_fits c a fa)
-      ∙ ap (walked (accepted m cs)) (after_walked c a fa)
-      ∙ sym (walked_append (option_to_list (step m m.cells c)) (accepted m cs) a)
+      grind (arith, end_walked cs (after k m c a), after_fits c a, after_walked c a, walked_append)
 
   end_keeps : (cs : List Call) (a b : List V) → Footprint m a → Footprint m b → Below k a b → Below k (end k m cs a) (end k m cs b)
-  end_keeps cs a b fa fb h =
-      subst (λ x. Below k x (end k m cs b)) (sym (end_walked cs a fa)) (subst (Below k (walked (accepted m cs) a)) (sym (end_walked cs b fb)) (walked_keeps (accepted m cs) a b fa fb h))
+  end_keeps cs a b fa fb h = rw (end_walked cs a fa, end_walked cs b fb) (walked_keeps (accepted m cs) a b fa fb h)
 
   same_answers : (cs : List Call) (a b : List V) → Footprint m a → Footprint m b → Below k a b → answers k m cs a ≡ answers k m cs b
   same_answers [] a b fa fb h = refl
   same_answers (c ∷ cs) a b fa fb h =
-      ap₂ ◌∷◌ (ap (λ n. answer m n c) h.lengths)
-      (same_answers cs (after k m c a) (after k m c b) (after_fits c a fa) (after_fits c b fb) (end_keeps (c ∷ []) a b fa fb h))
+      grind (arith, h.lengths, same_answers cs (after k m c a) (after k m c b) (after_fits c a fa) (after_fits c b fb) (end_keeps (c ∷ []) a b fa fb h))
 
   pub monotone : (cs : List Call) (a b : List V) → Footprint m a → Below k a b → KeepsUnder k m cs a b
   monotone cs a b fa h =
@@ -88,14 +81,12 @@ module _ {V : Type 0} (k : Values V) (l : Lawful k) (m : Meaning) (s : Sound m) 
   dilates_erodes [] a b fa fb = (λ h. h, λ h. h)
   dilates_erodes (e ∷ es) a b fa fb =
       let back : walked (map (by Erode) (reverse (e ∷ es))) b ≡ eroded k m e (walked (map (by Erode) (reverse es)) b) =
-      ap (λ x. walked (map (by Erode) x) b) (reverse-cons e es) ∙ ap (λ x. walked x b) (map-append (by Erode) (reverse es) (e ∷ [])) ∙ walked_append (map (by Erode) (reverse es)) (by Erode e ∷ []) b in
+      grind (arith, common_steps, reverse-cons e es, map-append, walked_append) in
       let rest = dilates_erodes es (dilated k m e a) b (made_fits Dilate e a) fb in
       let one = (dilate_erode k l m s e).adjoint a (walked (map (by Erode) (reverse es)) b) fa (walked_fits (map (by Erode) (reverse es)) b fb) in
       (λ h. subst (Below k a) (sym back) (one.0 (rest.0 h)), λ h. rest.1 (one.1 (subst (Below k a) back h)))
 
   pub adjoint : (es : List ℕ) (cs ds : List Call) (a b : List V) → Footprint m a → Footprint m b → accepted m cs ≡ map (by Dilate) es → accepted m ds ≡ map (by Erode) (reverse es) → Below k (end k m cs a) b ↔ Below k a (end k m ds b)
   adjoint es cs ds a b fa fb p q =
-      let there : end k m cs a ≡ walked (map (by Dilate) es) a = end_walked cs a fa ∙ ap (λ x. walked x a) p in
-      let back : end k m ds b ≡ walked (map (by Erode) (reverse es)) b = end_walked ds b fb ∙ ap (λ x. walked x b) q in
       let h = dilates_erodes es a b fa fb in
-      (λ u. subst (Below k a) (sym back) (h.0 (subst (λ x. Below k x b) there u)), λ u. subst (λ x. Below k x b) (sym there) (h.1 (subst (Below k a) back u)))
+      rw (end_walked cs a fa, end_walked ds b fb, p, q) h

@@ -1,5 +1,6 @@
 pub mod Adjoints
 pub mod Adjunction
+pub mod Folding
 pub mod HistoryLaws
 pub mod Joins
 pub mod Listed
@@ -7,4 +8,3 @@ pub mod Orders
 pub mod Passing
 pub mod Reaches
 pub mod Settling
-pub mod Turns

@@ -1,10 +1,10 @@
 -- Which cells the lists of steps hold. Assumes nothing.
-use Rattle.std.proofs.Common.{◌≡◌, ℕ, ◌+◌, Bool, true, false, cond, eqb, List, [], ◌∷◌, ◌++◌, sym, refl, ap, ◌∙◌, arith}
-use Rattle.std.specs.List.{range_with_len, flat_map}
-use Rattle.std.specs.Option.{option_to_list}
+use Rattle.std.proofs.Common.{◌≡◌, ℕ, ◌+◌, true, List, [], ◌∷◌, ◌++◌, Some, None, sym, ap, ◌∙◌, arith}
+use Rattle.std.specs.List.{range_with_len, filter_map}
 use Rattle.std.proofs.lemmas.List.FromFn.{map-range_with_len_more}
-use Rattle.std.proofs.lemmas.List.{map-id, flat_map_more}
-use Rattle.std.proofs.lemmas.Bool.{eq-eqb, ne_eqb}
+use Rattle.std.proofs.lemmas.List.{map-id, append-nil}
+use Rattle.std.proofs.lemmas.List.Elements.{filter_map-append}
+use Rattle.std.proofs.lemmas.Grind.{common_steps}
 use Rattle.plates.specs.Lists.{among}
 use Rattle.plates.specs.Meanings.{Meaning}
 
@@ -14,20 +14,19 @@ counting_more n = sym (map-id _) ∙ map-range_with_len_more (λ x. x) 0 n n (om
 
 -- the targets of c by the first n places of an element
 abbrev pub by_places : Meaning → ℕ → ℕ → ℕ → List ℕ
-by_places m e c n = flat_map (λ p. option_to_list (m.target e p c)) (range_with_len 0 n)
+by_places m e c n = filter_map (λ p. m.target e p c) (range_with_len 0 n)
 
-pub by_places_more : (m : Meaning) (e c n : ℕ) → by_places m e c (n + 1) ≡ by_places m e c n ++ option_to_list (m.target e n c)
-by_places_more m e c n =
-    ap (flat_map (λ p. option_to_list (m.target e p c))) (counting_more n) ∙ sym (flat_map_more (λ p. option_to_list (m.target e p c)) [] (range_with_len 0 n) n)
+-- one place more, with a target and without
+pub by_places_some : (m : Meaning) (e c n t : ℕ) → Some t ≡ m.target e n c → by_places m e c (n + 1) ≡ by_places m e c n ++ t ∷ []
+by_places_some m e c n t is = grind (arith, counting_more n, filter_map-append)
+
+pub by_places_none : (m : Meaning) (e c n : ℕ) → None ≡ m.target e n c → by_places m e c (n + 1) ≡ by_places m e c n
+by_places_none m e c n is = grind (arith, counting_more n, filter_map-append, append-nil)
 
 pub among_here : (x : ℕ) (xs : List ℕ) → among x (xs ++ x ∷ []) ≡ true
-among_here x [] = ap (λ b. cond b true false) (eq-eqb x x refl)
-among_here x (y ∷ ys) = go (eqb y x) (among_here x ys)
-  where
-    go : (b : Bool) → among x (ys ++ x ∷ []) ≡ true → cond b true (among x (ys ++ x ∷ [])) ≡ true
-    go true here = refl
-    go false here = here
+among_here x [] = grind (arith, common_steps)
+among_here x (y ∷ ys) = grind (arith, among_here x ys)
 
 pub among_other : (x y : ℕ) (xs : List ℕ) → (y ≡ x → ⊥) → among x (xs ++ y ∷ []) ≡ among x xs
-among_other x y [] other = ap (λ b. cond b true false) (ne_eqb y x other)
-among_other x y (z ∷ zs) other = ap (cond (eqb z x) true) (among_other x y zs other)
+among_other x y [] other = grind arith
+among_other x y (z ∷ zs) other = grind (arith, among_other x y zs other)

@@ -1,6 +1,7 @@
 -- Openings by one element and closings by one element settle at once. Assumes nothing.
-use Rattle.std.proofs.Common.{◌≡◌, ℕ, Bool, true, false, not, ◌&&◌, ◌||◌, ◌⊎◌, List, [], ◌∷◌, map, Some, None, Option, sym, refl, ap, ◌∙◌, subst, ap₂, inl, inr, arith}
+use Rattle.std.proofs.Common.{◌≡◌, ℕ, Bool, true, false, not, ◌&&◌, ◌||◌, ◌⊎◌, List, [], ◌∷◌, map, Some, None, Option, sym, refl, ap, ◌∙◌, subst, ap₂, arith}
 use Rattle.std.specs.Option.{option_map}
+use Rattle.std.proofs.lemmas.List.Elements.{All-head, All-tail}
 use Rattle.kinds.specs.Lattices.{Values, Lawful}
 use Rattle.plates.specs.Meanings.{Meaning, Sound}
 use Rattle.morphology.specs.Pictures.{Below}
@@ -20,14 +21,16 @@ cleaning o c false = by Close c
 abbrev is_opening : Step → Bool
 is_opening s = opens s.move
 
+abbrev Cleaning : ℕ → ℕ → Step → Type 0
+Cleaning o c s = (s ≡ by Open o) ⊎ (s ≡ by Close c)
+
 -- steps that clean are openings and closings
 as_cleanings : (o c : ℕ) (ss : List Step) → Cleans o c ss → ss ≡ map (cleaning o c) (map is_opening ss)
 as_cleanings o c [] all = refl
-as_cleanings o c (s ∷ ss) all = λ i. here all.0 i ∷ as_cleanings o c ss all.1 i
-  where
-    here : (s ≡ by Open o) ⊎ (s ≡ by Close c) → s ≡ cleaning o c (is_opening s)
-    here (inl is) = is ∙ ap (λ t. cleaning o c (is_opening t)) (sym is)
-    here (inr is) = is ∙ ap (λ t. cleaning o c (is_opening t)) (sym is)
+as_cleanings o c (s ∷ ss) all =
+    let first = All-head (Cleaning o c) s ss all in
+    let rest = as_cleanings o c ss (All-tail (Cleaning o c) s ss all) in
+    grind (arith, first, rest)
 
 -- the first and the last of a list of openings and closings that begins with x, and whether both occur
 abbrev last_of : Bool → List Bool → Bool
@@ -72,20 +75,16 @@ some_opening (s ∷ ss) = ap (λ b. is_opening s || b) (some_opening ss)
 
 some_closing : (o c : ℕ) (ss : List Step) → Cleans o c ss → some_step closes ss ≡ some_false (map is_opening ss)
 some_closing o c [] all = refl
-some_closing o c (s ∷ ss) all = ap₂ ◌||◌ (here all.0) (some_closing o c ss all.1)
-  where
-    here : (s ≡ by Open o) ⊎ (s ≡ by Close c) → closes s.move ≡ not (is_opening s)
-    here (inl is) = ap (λ t. closes t.move) is ∙ ap (λ t. not (is_opening t)) (sym is)
-    here (inr is) = ap (λ t. closes t.move) is ∙ ap (λ t. not (is_opening t)) (sym is)
+some_closing o c (s ∷ ss) all =
+    let first = All-head (Cleaning o c) s ss all in
+    let rest = some_closing o c ss (All-tail (Cleaning o c) s ss all) in
+    grind (arith, first, rest)
 
 both_mixed : (o c : ℕ) (ss : List Step) → Cleans o c ss → both ss ≡ mixed (map is_opening ss)
 both_mixed o c ss all = ap₂ ◌&&◌ (some_opening ss) (some_closing o c ss all)
 
 mixed_more : (x y : Bool) (ys : List Bool) → mixed (x ∷ y ∷ ys) ≡ (differ x y || mixed (y ∷ ys))
-mixed_more true true ys = refl
-mixed_more true false ys = refl
-mixed_more false true ys = refl
-mixed_more false false ys = refl
+mixed_more x y ys = grind arith
 
 module _ {V : Type 0} (k : Values V) (l : Lawful k) (m : Meaning) (s : Sound m) (o c : ℕ) where
   abbrev cleaned : Bool → List V → List V
@@ -138,8 +137,7 @@ module _ {V : Type 0} (k : Values V) (l : Lawful k) (m : Meaning) (s : Sound m) 
   walks_more false xs a = refl
 
   comes_one : (x : Bool) (a : List V) → cleaned x a ≡ comes x x (mixed (x ∷ [])) a
-  comes_one true a = refl
-  comes_one false a = refl
+  comes_one x a = grind arith
 
   comes_to : (x : Bool) (xs : List Bool) (a : List V) → Footprint m a → walks (x ∷ xs) a ≡ comes x (last_of x xs) (mixed (x ∷ xs)) a
   comes_to x [] a fa = walks_more x [] a ∙ comes_one x a
@@ -151,8 +149,8 @@ module _ {V : Type 0} (k : Values V) (l : Lawful k) (m : Meaning) (s : Sound m) 
 
   same_walks : (xs ys : List Bool) (a : List V) → Footprint m a → first_of xs ≡ first_of ys → end_of xs ≡ end_of ys → mixed xs ≡ mixed ys → walks xs a ≡ walks ys a
   same_walks [] [] a fa p q r = refl
-  same_walks [] (y ∷ ys) a fa p q r = let z : ◌≡◌ {A = ℕ} 0 1 = cc in absurd (omega arith)
-  same_walks (x ∷ xs) [] a fa p q r = let z : ◌≡◌ {A = ℕ} 0 1 = cc in absurd (omega arith)
+  same_walks [] (y ∷ ys) a fa p q r = cc
+  same_walks (x ∷ xs) [] a fa p q r = cc
   same_walks (x ∷ xs) (y ∷ ys) a fa p q r =
       let firsts : x ≡ y = cc in
       let lasts : last_of x xs ≡ last_of y ys = cc in
@@ -191,7 +189,7 @@ module _ {V : Type 0} (k : Values V) (l : Lawful k) (m : Meaning) (s : Sound m) 
   walks_between : (xs : List Bool) (a b : List V) → Footprint m a → Footprint m b → Between a b → Between a (walks xs b)
   walks_between [] a b fa fb h = h
   walks_between (x ∷ xs) a b fa fb h =
-      subst (Between a) (sym (walks_more x xs b)) (walks_between xs a (cleaned x b) fa (cleaned_fits x b) (cleaned_between x a b fa fb h))
+      rw walks_more (walks_between xs a (cleaned x b) fa (cleaned_fits x b) (cleaned_between x a b fa fb h))
 
   pub between : (cs : List Call) (a : List V) → Footprint m a → Cleans o c (accepted m cs) → Between a (end k m cs a)
   between cs a fa p =

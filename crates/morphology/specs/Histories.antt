@@ -7,8 +7,8 @@ use Rattle.plates.specs.Meanings.{Meaning}
 use Rattle.morphology.specs.Moves.{dilated, eroded, opened, closed}
 use Rattle.morphology.specs.declared.words.Move.{Move}
 use Rattle.morphology.specs.declared.words.Move.TheVariants.{Dilate, Erode, Open, Close}
-use Rattle.morphology.specs.declared.words.Refusal.{Refusal}
-use Rattle.morphology.specs.declared.words.Refusal.TheVariants.{UnknownMove, PictureLength, MemoryLength, NoElement}
+use Rattle.morphology.specs.declared.faults.Refusal.{Refusal}
+use Rattle.morphology.specs.declared.faults.Refusal.TheVariants.{UnknownMove, PictureLength, MemoryLength, NoElement}
 
 -- every refusal of a move, and its number
 abbrev pub refusal_number : Refusal → ℕ

@@ -1,7 +1,6 @@
 -- The four moves, by the cells that steps join. Assumes nothing.
 use Rattle.std.specs.Prelude.{ℕ, List, map, filter}
-use Rattle.std.specs.List.{range_with_len, flat_map}
-use Rattle.std.specs.Option.{option_to_list}
+use Rattle.std.specs.List.{range_with_len, filter_map}
 use Rattle.kinds.specs.Lattices.{Values, join_all, meet_all}
 use Rattle.plates.specs.Lists.{among}
 use Rattle.plates.specs.Meanings.{Meaning}
@@ -9,7 +8,7 @@ use Rattle.morphology.specs.Pictures.{at}
 
 -- the cells that the steps of c reach: the targets of c by the places of the element, a place without a target adding none
 abbrev pub reached : Meaning → ℕ → ℕ → List ℕ
-reached m e c = flat_map (λ p. option_to_list (m.target e p c)) (range_with_len 0 (m.fan e))
+reached m e c = filter_map (λ p. m.target e p c) (range_with_len 0 (m.fan e))
 
 -- the cells with a step to x
 abbrev pub reaching : Meaning → ℕ → ℕ → List ℕ

@@ -1,6 +1,6 @@
 -- What holds of every history, over every plate and every kind. Assumes nothing.
 use Rattle.std.specs.Prelude.{◌≡◌, ℕ, ◌≤◌, Bool, true, false, ◌&&◌, ◌||◌, ◌⊎◌, ◌↔◌, List, [], ◌∷◌, map, reverse, length, take, Some, None, Option}
-use Rattle.std.specs.List.{AllByRecursion}
+use Rattle.std.specs.List.{All}
 use Rattle.kinds.specs.Lattices.{Values}
 use Rattle.plates.specs.Meanings.{Meaning, Sound}
 use Rattle.morphology.specs.Pictures.{Below, area}
@@ -15,7 +15,7 @@ Footprint m a = length a ≡ m.cells
 
 -- each step is an opening by o or a closing by c
 abbrev pub Cleans : ℕ → ℕ → List Step → Type 0
-Cleans o c = AllByRecursion (λ s. (s ≡ by Open o) ⊎ (s ≡ by Close c))
+Cleans o c = All (λ s. (s ≡ by Open o) ⊎ (s ≡ by Close c))
 
 abbrev pub first : List Step → Option Step
 first [] = None

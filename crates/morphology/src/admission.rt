@@ -1,7 +1,7 @@
 ghost use Rattle.std.specs.Prelude.{◌≡◌, OnOk};
 ghost use Rattle.morphology.specs.Histories.{admitted};
 
-use crate::words::Refusal;
+use crate::faults::Refusal;
 use plates::Plate;
 
 // The checks of every move, in their order, at a picture and a working memory of these lengths.

@@ -2,11 +2,12 @@ ghost use Rattle.morphology.specs.Histories.{Called, move_number};
 ghost use Rattle.morphology.specs.declared.words.Move.TheVariants.{Open, Close};
 
 use crate::admission::admit;
-use crate::dilation::scatter;
-use crate::erosion::gather;
-use crate::words::Refusal;
+use crate::faults::Refusal;
+use crate::passes::Pass;
 use kinds::Kind;
 use plates::Plate;
+
+// Opening and closing differ in which pass comes first: one function for both would take the passes as closures, and be longer.
 
 // Opens the picture: erodes it into the working memory, and dilates that back into the picture. The working memory ends with the
 // eroded picture. Refused as `dilate` is.
@@ -19,8 +20,8 @@ pub fn open<P: Plate, K: Kind>(
     ensures { Called K.Kind.values (P.Plate.meaning plate.now) (move_number Open) element result picture.old picture.new work.old work.new }
 {
     admit(plate, element, picture.len(), work.len())?;
-    gather(plate, element, picture, work);
-    scatter(plate, element, work, picture);
+    Pass::over(plate, element, picture).gather(work);
+    Pass::over(plate, element, work).scatter(picture);
     Ok(())
 }
 
@@ -35,7 +36,7 @@ pub fn close<P: Plate, K: Kind>(
     ensures { Called K.Kind.values (P.Plate.meaning plate.now) (move_number Close) element result picture.old picture.new work.old work.new }
 {
     admit(plate, element, picture.len(), work.len())?;
-    scatter(plate, element, picture, work);
-    gather(plate, element, work, picture);
+    Pass::over(plate, element, picture).scatter(work);
+    Pass::over(plate, element, work).gather(picture);
     Ok(())
 }

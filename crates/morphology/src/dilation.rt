@@ -1,61 +1,39 @@
-ghost use Rattle.std.specs.Prelude.{◌≡◌, ◌<◌, length};
+ghost use Rattle.std.specs.Prelude.{◌≡◌, length};
 ghost use Rattle.morphology.specs.Histories.{Called, move_number};
 ghost use Rattle.morphology.specs.Moves.{reached, dilated};
-ghost use Rattle.morphology.specs.Passes.{Within, joined_into, Spread};
-ghost use Rattle.morphology.specs.Pictures.{at};
+ghost use Rattle.morphology.specs.Passes.{Spread};
 ghost use Rattle.morphology.specs.declared.words.Move.TheVariants.{Dilate};
 
 use crate::admission::admit;
+use crate::faults::Refusal;
 use crate::filling::fill;
-use crate::words::Refusal;
+use crate::passes::Pass;
 use kinds::Kind;
 use plates::Plate;
 
-// Joins a value into the target of a step; a step without a target is skipped.
-fn join_into<K: Kind>(work: &mut [K], target: Option<usize>, value: K)
-    requires { Within (length work.old) target }
-    ensures { work.new ≡ joined_into K.Kind.values work.old target value }
-{
-    if let Some(cell) = target {
-        work[cell] = work[cell].join(value);
+impl<P: Plate, K: Kind> Pass<'_, '_, P, K> {
+    // Joins a value into every cell that the steps of one cell reach. A step without a target is skipped.
+    fn spread(&self, cell: usize, value: K, work: &mut [K])
+        requires { length work.old ≡ (P.Plate.meaning self.now.plate.now).cells }
+        ensures { Spread K.Kind.values (reached (P.Plate.meaning self.now.plate.now) self.now.element cell) value work.old work.new }
+    {
+        // A `for` over the chain that `met` folds gets no proof: where its closure is generic, what is generated for the loop is refused.
+        for place in 0..self.plate.fan(self.element) {
+            if let Some(target) = self.plate.target(self.element, place, cell) {
+                work[target] = work[target].join(value);
+            }
+        }
     }
-}
 
-// Joins a value into every cell that the steps of one cell reach.
-fn spread<P: Plate, K: Kind>(plate: &P, element: usize, cell: usize, value: K, work: &mut [K])
-    requires { length work.old ≡ (P.Plate.meaning plate.now).cells }
-    ensures { Spread K.Kind.values (reached (P.Plate.meaning plate.now) element cell) value work.old work.new }
-{
-    for place in 0..plate.fan(element) {
-        join_into(work, plate.target(element, place, cell), value);
-    }
-}
-
-// Joins the value of one cell of the picture into every cell of the working memory that its steps reach.
-fn spread_cell<P: Plate, K: Kind>(
-    plate: &P,
-    element: usize,
-    cell: usize,
-    picture: &[K],
-    work: &mut [K],
-)
-    requires within { cell < length picture.now }
-    requires long { length picture.now ≡ (P.Plate.meaning plate.now).cells }
-    requires wide { length work.old ≡ (P.Plate.meaning plate.now).cells }
-    ensures { Spread K.Kind.values (reached (P.Plate.meaning plate.now) element cell) (at K.Kind.values picture.now cell) work.old work.new }
-{
-    spread(plate, element, cell, picture[cell], work);
-}
-
-// Dilates one picture into another: each cell is spread to the cells that its steps reach.
-pub(crate) fn scatter<P: Plate, K: Kind>(plate: &P, element: usize, picture: &[K], work: &mut [K])
-    requires long { length picture.now ≡ (P.Plate.meaning plate.now).cells }
-    requires wide { length work.old ≡ (P.Plate.meaning plate.now).cells }
-    ensures { work.new ≡ dilated K.Kind.values (P.Plate.meaning plate.now) element picture.now }
-{
-    fill(work, K::least());
-    for cell in 0..picture.len() {
-        spread_cell(plate, element, cell, picture, work);
+    // Dilates the picture into another: each cell is spread to the cells that its steps reach.
+    pub(crate) fn scatter(&self, work: &mut [K])
+        requires { length work.old ≡ (P.Plate.meaning self.now.plate.now).cells }
+        ensures { work.new ≡ dilated K.Kind.values (P.Plate.meaning self.now.plate.now) self.now.element self.now.picture.now }
+    {
+        fill(work, K::least());
+        for (cell, value) in self.picture.iter().enumerate() {
+            self.spread(cell, *value, work);
+        }
     }
 }
 
@@ -71,7 +49,7 @@ pub fn dilate<P: Plate, K: Kind>(
     ensures { Called K.Kind.values (P.Plate.meaning plate.now) (move_number Dilate) element result picture.old picture.new work.old work.new }
 {
     admit(plate, element, picture.len(), work.len())?;
-    scatter(plate, element, picture, work);
+    Pass::over(plate, element, picture).scatter(work);
     picture.copy_from_slice(work);
     Ok(())
 }

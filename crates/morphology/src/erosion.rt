@@ -1,48 +1,36 @@
 ghost use Rattle.std.specs.Prelude.{◌≡◌, length};
 ghost use Rattle.morphology.specs.Histories.{Called, move_number};
 ghost use Rattle.morphology.specs.Moves.{eroded_at, eroded};
-ghost use Rattle.morphology.specs.Passes.{Within, met_with};
 ghost use Rattle.morphology.specs.declared.words.Move.TheVariants.{Erode};
 
 use crate::admission::admit;
-use crate::words::Refusal;
+use crate::faults::Refusal;
+use crate::passes::Pass;
 use kinds::Kind;
 use plates::Plate;
 
-// The meet of a value and the target of a step; a step without a target is skipped, and spoils nothing.
-fn meet_with<K: Kind>(picture: &[K], target: Option<usize>, value: K) -> K
-    requires { Within (length picture.now) target }
-    ensures { result ≡ met_with K.Kind.values picture.now target value }
-{
-    match target {
-        Some(cell) => value.meet(picture[cell]),
-        None => value,
+impl<P: Plate, K: Kind> Pass<'_, '_, P, K> {
+    // The meet of all cells that the steps of one cell reach. A step without a target is skipped, and spoils nothing.
+    fn met(&self, cell: usize) -> K
+        ensures { result ≡ eroded_at K.Kind.values (P.Plate.meaning self.now.plate.now) self.now.element self.now.picture.now cell }
+    {
+        (0..self.plate.fan(self.element))
+            .filter_map(|place| self.plate.target(self.element, place, cell))
+            .fold(K::greatest(), |met, target| met.meet(self.picture[target]))
+    }
+
+    // Erodes the picture into another: each cell gathers from the cells that its steps reach.
+    pub(crate) fn gather(&self, work: &mut [K])
+        requires { length work.old ≡ (P.Plate.meaning self.now.plate.now).cells }
+        ensures { work.new ≡ eroded K.Kind.values (P.Plate.meaning self.now.plate.now) self.now.element self.now.picture.now }
+    {
+        for (cell, value) in work.iter_mut().enumerate() {
+            *value = self.met(cell);
+        }
     }
 }
 
-// The meet of all cells that the steps of one cell reach.
-fn meet_reached<P: Plate, K: Kind>(plate: &P, element: usize, cell: usize, picture: &[K]) -> K
-    requires { length picture.now ≡ (P.Plate.meaning plate.now).cells }
-    ensures { result ≡ eroded_at K.Kind.values (P.Plate.meaning plate.now) element picture.now cell }
-{
-    let mut met = K::greatest();
-    for place in 0..plate.fan(element) {
-        met = meet_with(picture, plate.target(element, place, cell), met);
-    }
-    met
-}
-
-// Erodes one picture into another: each cell gathers from the cells that its steps reach.
-pub(crate) fn gather<P: Plate, K: Kind>(plate: &P, element: usize, picture: &[K], work: &mut [K])
-    requires long { length picture.now ≡ (P.Plate.meaning plate.now).cells }
-    requires wide { length work.old ≡ (P.Plate.meaning plate.now).cells }
-    ensures { work.new ≡ eroded K.Kind.values (P.Plate.meaning plate.now) element picture.now }
-{
-    for cell in 0..work.len() {
-        work[cell] = meet_reached(plate, element, cell, picture);
-    }
-}
-
+// Beside `dilate`, with the other pass: one function for both would take the pass as a closure, and be longer.
 // Erodes the picture: each cell then holds the meet of all cells that its own steps reach, and so does the working memory.
 // Refused where the picture or the working memory has not one value for each cell, or the plate has no such element; nothing is
 // altered then.
@@ -55,7 +43,7 @@ pub fn erode<P: Plate, K: Kind>(
     ensures { Called K.Kind.values (P.Plate.meaning plate.now) (move_number Erode) element result picture.old picture.new work.old work.new }
 {
     admit(plate, element, picture.len(), work.len())?;
-    gather(plate, element, picture, work);
+    Pass::over(plate, element, picture).gather(work);
     picture.copy_from_slice(work);
     Ok(())
 }

@@ -6,7 +6,8 @@ use kinds::Kind;
 pub fn fill<K: Kind>(picture: &mut [K], value: K)
     ensures { picture.new ≡ replicate (length picture.old) value }
 {
-    for cell in 0..picture.len() {
-        picture[cell] = value;
+    // The slice's own `fill` asks that a clone of the value is the value, and the bound `Copy` does not say that: its proof stays open.
+    for cell in picture.iter_mut() {
+        *cell = value;
     }
 }

@@ -7,11 +7,5 @@ use kinds::Kind;
 pub fn area<K: Kind>(picture: &[K]) -> usize
     ensures { result ≡ area K.Kind.values picture.now }
 {
-    let mut count = 0;
-    for cell in picture {
-        if cell.is_not_least() {
-            count += 1;
-        }
-    }
-    count
+    picture.iter().filter(|cell| cell.is_not_least()).count()
 }

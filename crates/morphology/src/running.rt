@@ -6,12 +6,13 @@ ghost use Rattle.morphology.specs.Runs.{Ran, call_of, noted};
 use crate::cleaning::{close, open};
 use crate::dilation::dilate;
 use crate::erosion::erode;
+use crate::faults::Refusal;
 use crate::measures::area;
-use crate::words::{Move, Record, Refusal};
+use crate::words::{Move, Record};
 use kinds::Kind;
 use plates::Plate;
 
-// Makes the move of that number, or refuses it.
+// Makes the move of that number, or refuses it. It is given the number, since that of a record may be any.
 fn make_move<P: Plate, K: Kind>(
     plate: &P,
     number: u8,
@@ -33,10 +34,7 @@ fn make_move<P: Plate, K: Kind>(
 fn number_of(answer: Result<(), Refusal>) -> u8
     ensures { result ≡ answer_number answer }
 {
-    match answer {
-        Ok(()) => 0,
-        Err(refusal) => refusal.number(),
-    }
+    answer.err().map_or(0, Refusal::number)
 }
 
 // Works one record: makes its move, and writes the answer and the area into it.
@@ -55,7 +53,7 @@ pub fn run<P: Plate, K: Kind>(plate: &P, picture: &mut [K], work: &mut [K], reco
     ensures ran { Ran K.Kind.values (P.Plate.meaning plate.now) records.old records.new picture.old picture.new work.old work.new }
     ensures histories { HistoriesHold K.Kind.values (P.Plate.meaning plate.now) }
 {
-    for i in 0..records.len() {
-        work_record(plate, picture, work, &mut records[i]);
+    for record in records.iter_mut() {
+        work_record(plate, picture, work, record);
     }
 }

@@ -1,29 +1,23 @@
 ghost use Rattle.std.specs.Prelude.{◌≡◌};
 ghost use Rattle.std.specs.Option.{ok_or};
-ghost use Rattle.morphology.specs.Histories.{refusal_number, move_number, move_of};
-ghost use Rattle.morphology.specs.declared.words.Refusal.TheVariants.{UnknownMove};
+ghost use Rattle.morphology.specs.Histories.{move_number, move_of};
+ghost use Rattle.morphology.specs.declared.faults.Refusal.TheVariants.{UnknownMove};
+
+use crate::faults::Refusal;
 
 // The morphological moves.
-#[derive(Clone, Copy)]
-pub enum Move {
-    Dilate,
-    Erode,
-    Open,
-    Close,
-}
-
-// Why a move is refused: its number is no move's, the picture or the working memory has not one value for each cell, or the plate has no such element.
 #[derive(Clone, Copy, PartialEq, Debug)]
-pub enum Refusal {
-    UnknownMove,
-    PictureLength,
-    MemoryLength,
-    NoElement,
+pub enum Move {
+    Dilate = 1,
+    Erode = 2,
+    Open = 3,
+    Close = 4,
 }
 
 // One line of a list of moves: the number of the move, the element, and, once it was run, the answer (0 or the number of the
-// refusal) and the area afterwards.
-#[derive(Clone, Copy, PartialEq, Debug)]
+// refusal) and the area afterwards. The move stays a number, since a list of moves comes from outside and may hold any: `run` answers
+// 26 to one that is no move's. The answer is the number that a report prints, and 0 as well in a record that was not run.
+#[derive(Clone, Copy, Default, PartialEq, Debug)]
 pub struct Record {
     pub action: u8,
     pub element: usize,
@@ -31,31 +25,12 @@ pub struct Record {
     pub area: usize,
 }
 
-impl Refusal {
-    // The number of the refusal.
-    pub fn number(self) -> u8
-        ensures { result ≡ refusal_number self }
-    {
-        match self {
-            Refusal::UnknownMove => 26,
-            Refusal::PictureLength => 21,
-            Refusal::MemoryLength => 22,
-            Refusal::NoElement => 23,
-        }
-    }
-}
-
 impl Move {
     // The number of the move.
     pub fn number(self) -> u8
         ensures { result ≡ move_number self }
     {
-        match self {
-            Move::Dilate => 1,
-            Move::Erode => 2,
-            Move::Open => 3,
-            Move::Close => 4,
-        }
+        self as u8
     }
 }
 

@@ -1,13 +1,15 @@
 -- What a plan takes that is entered again, part by part. Assumes nothing.
-use Rattle.std.proofs.Common.{◌≡◌, ℕ, zero, suc, ◌≤◌, Bool, true, false, cond, not, eqb, ltb, List, [], ◌∷◌, ◌++◌, length, Some, None, Ok, Err, Option, sym, refl, ap, ◌∙◌, arith}
+use Rattle.std.proofs.Common.{◌≡◌, ℕ, zero, suc, ◌≤◌, Bool, true, false, cond, not, ◌&&◌, eqb, ltb, List, [], ◌∷◌, ◌++◌, length, Some, None, Ok, Err, Option, sym, refl, ap, ◌∙◌, arith}
 use Rattle.std.proofs.lemmas.List.{length-append}
-use Rattle.std.proofs.lemmas.Bool.{and_parts, or_parts, or_from, not-true, true≢false, lt-ltb, eqb-false, ne_eqb, cond-true, cond-false}
+use Rattle.std.proofs.lemmas.List.Folds.{list_any-append, list_all-append}
+use Rattle.std.proofs.lemmas.Bool.Decides.{nat_tests}
+use Rattle.std.specs.List.{list_any}
+use Rattle.std.proofs.lemmas.Bool.{and_parts, or_parts, or_from, not-true, lt-ltb, cond-true, cond-false}
 use Rattle.layers.specs.Layers.{distinct, kill_answer}
 use Rattle.plates.specs.Lists.{below}
-use Rattle.plates.specs.Lists as cells
 use Rattle.grids.specs.Extents.{lawful_size}
-use Rattle.grids.specs.VectorLaws.{same_swap}
-use Rattle.grids.specs.Vectors.{same, among}
+use Rattle.grids.proofs.SameVectors.{same_swap}
+use Rattle.grids.specs.Vectors.{same}
 use Rattle.grids.specs.declared.vectors.Vector.{Vector}
 use Rattle.plans.specs.declared.faults.PlanFault.TheVariants as fault
 use Rattle.plans.specs.declared.modes.Mode.{Mode}
@@ -25,12 +27,12 @@ mode_restored Independent = refl
 mode_restored Strong = refl
 
 pub mode_named : (n : ℕ) (m : Mode) → mode_of n ≡ Some m → mode_number m ≡ n
-mode_named zero m h = let z : ◌≡◌ {A = ℕ} 0 1 = cc in absurd (omega arith)
-mode_named (suc zero) m h = let is : Strict ≡ m = cc in sym (ap mode_number is)
-mode_named (suc (suc zero)) m h = let is : Weak ≡ m = cc in sym (ap mode_number is)
-mode_named (suc (suc (suc zero))) m h = let is : Independent ≡ m = cc in sym (ap mode_number is)
-mode_named (suc (suc (suc (suc zero)))) m h = let is : Strong ≡ m = cc in sym (ap mode_number is)
-mode_named (suc (suc (suc (suc (suc n))))) m h = let z : ◌≡◌ {A = ℕ} 0 1 = cc in absurd (omega arith)
+mode_named zero m h = cc
+mode_named (suc zero) m h = cc
+mode_named (suc (suc zero)) m h = cc
+mode_named (suc (suc (suc zero))) m h = cc
+mode_named (suc (suc (suc (suc zero)))) m h = cc
+mode_named (suc (suc (suc (suc (suc n))))) m h = cc
 
 pub planned_design : (m : Mode) (w h : ℕ) → lawful_size w h ≡ true → planned (mode_number m) w h ≡ Ok (record { drawing = record { mode = m; width = w; height = h; elements = [] }; dead = [] })
 planned_design m w h ok = ap (λ o. with_none_dead (drawn o w h)) (mode_restored m) ∙ ap with_none_dead (cond-true _ _ _ ok)
@@ -48,23 +50,21 @@ planned_parts n w h d = of_mode (mode_of n) refl
     of_size : (m : Mode) → mode_of n ≡ Some m → (b : Bool) → lawful_size w h ≡ b → with_none_dead (cond b (Ok (empty m w h)) (Err fault.Size)) ≡ Ok d → PlannedParts n w h d
     of_size m is true ok made =
         let same : d ≡ record { drawing = empty m w h; dead = [] } = cc in
-        (ap (λ x. mode_number x.drawing.mode) same ∙ mode_named n m is, ap (λ x. x.drawing.width) same, ap (λ x. x.drawing.height) same, ap (λ x. x.drawing.elements) same, ap (λ x. x.dead) same, ok)
-    of_size m is false ok made = let z : ◌≡◌ {A = ℕ} 0 1 = cc in absurd (omega arith)
+        rw same (mode_named n m is, refl, refl, refl, refl, ok)
+    of_size m is false ok made = cc
 
     of_mode : (o : Option Mode) → mode_of n ≡ o → with_none_dead (drawn o w h) ≡ Ok d → PlannedParts n w h d
-    of_mode None is made = let z : ◌≡◌ {A = ℕ} 0 1 = cc in absurd (omega arith)
+    of_mode None is made = cc
     of_mode (Some m) is made = of_size m is (lawful_size w h) refl made
 
--- a vector of a list without u is not u
-other_vector : (u : Vector) (vs qs : List Vector) (v : Vector) → among u (vs ++ v ∷ qs) ≡ false → same v u ≡ false
-other_vector u [] qs v h = (or_parts (same v u) _ h).0
-other_vector u (w ∷ vs) qs v h = other_vector u vs qs v (or_parts (same w u) _ h).1
-
-new_vector : (vs qs : List Vector) (v : Vector) → different (vs ++ v ∷ qs) ≡ true → among v vs ≡ false
-new_vector [] qs v h = refl
-new_vector (u ∷ vs) qs v h =
-    let p = and_parts (not (among u (vs ++ v ∷ qs))) _ h in
-    or_from (same u v) _ (same_swap u v ∙ other_vector u vs qs v (not-true _ p.0)) (new_vector vs qs v p.1)
+-- lists in which no element stands twice, by a test that asks both ways alike: what stands behind xs in one is not in xs
+module _ {X : Type 0} (same : X → X → Bool) (swap : (x y : X) → same x y ≡ same y x) (apart : List X → Bool) (step : (x : X) (xs : List X) → apart (x ∷ xs) ≡ (not (list_any (λ y. same y x) xs) && apart xs)) where
+  new : (xs ys : List X) (x : X) → apart (xs ++ x ∷ ys) ≡ true → list_any (λ y. same y x) xs ≡ false
+  new [] ys x h = refl
+  new (u ∷ us) ys x h =
+      let p = and_parts _ _ (sym (step u (us ++ x ∷ ys)) ∙ h) in
+      let other = or_parts (list_any (λ y. same y u) us) _ (sym (list_any-append (λ y. same y u) us (x ∷ ys)) ∙ not-true _ p.0) in
+      or_from (same u x) _ (swap u x ∙ (or_parts (same x u) _ other.1).0) (new us ys x p.1)
 
 -- there is room for one that stands in a list of at most n
 room : {X : Type 0} (n : ℕ) (xs ys : List X) (x : X) → length (xs ++ x ∷ ys) ≤ n → ltb (length xs) n ≡ true
@@ -72,28 +72,15 @@ room n xs ys x h = lt-ltb _ _ (omega (arith, length-append xs (x ∷ ys)))
 
 -- a vector after those before it is accepted
 pub list_takes : (vs qs : List Vector) (v : Vector) → different (vs ++ v ∷ qs) ≡ true → length (vs ++ v ∷ qs) ≤ 32 → list_answer vs v ≡ Ok tt
-list_takes vs qs v apart few = cond-false _ _ _ (new_vector vs qs v apart) ∙ cond-true _ _ _ (room 32 vs qs v few)
+list_takes vs qs v apart few = cond-false _ _ _ (new same same_swap different (λ _ _. refl) vs qs v apart) ∙ cond-true _ _ _ (room 32 vs qs v few)
 
-neither : (t u : Bool) → cond t true u ≡ false → (t ≡ false) × (u ≡ false)
-neither true u h = absurd (true≢false h)
-neither false u h = (refl, h)
-
-other_cell : (d : ℕ) (ds es : List ℕ) (c : ℕ) → cells.among d (ds ++ c ∷ es) ≡ false → eqb c d ≡ false
-other_cell d [] es c h = (neither (eqb c d) _ h).0
-other_cell d (x ∷ ds) es c h = other_cell d ds es c (neither (eqb x d) _ h).1
-
-new_cell : (ds es : List ℕ) (c : ℕ) → distinct (ds ++ c ∷ es) ≡ true → cells.among c ds ≡ false
-new_cell [] es c h = refl
-new_cell (d ∷ ds) es c h =
-    let p = and_parts (not (cells.among d (ds ++ c ∷ es))) _ h in
-    let other : eqb d c ≡ false = ne_eqb d c (λ is. eqb-false c d (other_cell d ds es c (not-true _ p.0)) (sym is)) in
-    cond-false _ _ _ other ∙ new_cell ds es c p.1
+equal_swap : (m n : ℕ) → eqb m n ≡ eqb n m
+equal_swap m n = grind (arith, nat_tests)
 
 a_cell : (n : ℕ) (ds es : List ℕ) (c : ℕ) → below n (ds ++ c ∷ es) ≡ true → ltb c n ≡ true
-a_cell n [] es c h = (and_parts (ltb c n) _ h).0
-a_cell n (d ∷ ds) es c h = a_cell n ds es c (and_parts (ltb d n) _ h).1
+a_cell n ds es c h = (and_parts (ltb c n) _ (and_parts (below n ds) _ (sym (list_all-append (λ d. ltb d n) ds (c ∷ es)) ∙ h)).1).0
 
 -- and so is a dead cell
 pub dead_takes : (n : ℕ) (ds es : List ℕ) (c : ℕ) → below n (ds ++ c ∷ es) ≡ true → distinct (ds ++ c ∷ es) ≡ true → length (ds ++ c ∷ es) ≤ 64 → kill_answer n ds c ≡ Ok tt
 dead_takes n ds es c within apart few =
-    cond-true _ _ _ (a_cell n ds es c within) ∙ cond-false _ _ _ (new_cell ds es c apart) ∙ cond-true _ _ _ (room 64 ds es c few)
+    cond-true _ _ _ (a_cell n ds es c within) ∙ cond-false _ _ _ (new eqb equal_swap distinct (λ _ _. refl) ds es c apart) ∙ cond-true _ _ _ (room 64 ds es c few)

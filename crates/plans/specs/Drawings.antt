@@ -1,5 +1,6 @@
 -- A drawing: a grid with its elements, and the plate that it means. Assumes nothing.
-use Rattle.std.specs.Prelude.{ℕ, ◌+◌, ◌-◌, Bool, true, cond, ◌&&◌, List, [], ◌∷◌, length, pos, Some, None, Option, nat_lt, slice_index_or}
+use Rattle.std.specs.Prelude.{ℕ, ◌+◌, ◌-◌, Bool, cond, ◌&&◌, List, [], length, pos, Some, None, Option, nat_lt, slice_index_or}
+use Rattle.std.specs.List.{list_all}
 use Rattle.plates.specs.Meanings.{Meaning}
 use Rattle.grids.specs.Cells.{Extent, cell_count, vector_sum}
 use Rattle.grids.specs.Extents.{extent}
@@ -69,5 +70,4 @@ abbrev pub fair : Mode → Lists → Bool
 fair m l = every (λ v. allowed m First (vector_sum v)) l.first && every (λ v. allowed m Second (vector_sum v)) l.second
 
 abbrev pub all_fair : Mode → List Lists → Bool
-all_fair m [] = true
-all_fair m (l ∷ ls) = fair m l && all_fair m ls
+all_fair m ls = list_all (fair m) ls

@@ -3,11 +3,11 @@ use Rattle.std.specs.Prelude.{ℕ, Bool, cond, List, [], ◌∷◌, ◌++◌, le
 use Rattle.grids.specs.Cells.{vector_sum}
 use Rattle.grids.specs.Extents.{lawful_size}
 use Rattle.grids.specs.Vectors.{among}
-use Rattle.grids.specs.declared.shapes.Shape.{Shape}
 use Rattle.grids.specs.declared.vectors.Vector.{Vector}
 use Rattle.plans.specs.declared.modes.Mode.{Mode}
 use Rattle.plans.specs.declared.modes.Side.{Side}
 use Rattle.plans.specs.declared.modes.Side.TheVariants.{First, Second}
+use Rattle.plans.specs.declared.outline.Outline.{Outline}
 use Rattle.plans.specs.declared.faults.PlanFault.{PlanFault}
 use Rattle.plans.specs.declared.faults.PlanFault.TheVariants as fault
 use Rattle.plans.specs.Drawings.{Lists, Drawing, blank}
@@ -19,8 +19,8 @@ abbrev pub must : {X : Type 0} → Bool → PlanFault → Result X PlanFault →
 must holds f answer = cond holds answer (Err f)
 
 -- a drawing without elements
-abbrev pub outline : Mode → Shape → Drawing
-outline m g = record { mode = m; width = g.width; height = g.height; elements = [] }
+abbrev pub bare : Outline → Drawing
+bare o = record { mode = o.mode; width = o.shape.width; height = o.shape.height; elements = [] }
 
 -- what a new drawing is, by the checks in their order
 abbrev pub drawn : Option Mode → ℕ → ℕ → Result Drawing PlanFault

@@ -1,12 +1,11 @@
--- What the tables of a grid hold. Assumes nothing.
-use Rattle.std.specs.Prelude.{List, map, take, vec_items, box_value}
+-- What the table of a grid holds. Assumes nothing.
+use Rattle.std.specs.Prelude.{List, map, vec_items}
 use Rattle.plans.specs.declared.tables.Element.{Element}
 use Rattle.plans.specs.declared.tables.Table.{Table}
 use Rattle.plans.specs.Drawings.{Lists}
 
 abbrev pub lists_of : Element → Lists
-lists_of e = record { first = vec_items e.first.items; second = vec_items e.second.items }
+lists_of e = record { first = e.first.items.items; second = e.second.items.items }
 
--- the elements in use
 abbrev pub elements_of : Table → List Lists
-elements_of t = take t.count (map lists_of (box_value t.elements))
+elements_of t = map lists_of (vec_items t.elements)

@@ -1,5 +1,6 @@
 -- Lists of vectors. Assumes nothing.
 use Rattle.std.specs.Prelude.{Bool, true, not, ◌&&◌, List, [], ◌∷◌, ℤ, nat_le, unsigned_abs}
+use Rattle.std.specs.List.{list_all}
 use Rattle.grids.specs.Vectors.{among}
 use Rattle.grids.specs.declared.vectors.Vector.{Vector}
 
@@ -20,5 +21,4 @@ different (v ∷ vs) = not (among v vs) && different vs
 
 -- a test that every vector of a list passes
 abbrev pub every : (Vector → Bool) → List Vector → Bool
-every test [] = true
-every test (v ∷ vs) = test v && every test vs
+every test vs = list_all test vs

@@ -11,9 +11,9 @@ ghost use Rattle.plans.specs.Vectors.{vector};
 
 use crate::faults::{NoPlan, PlanFault};
 use crate::grid::Grid;
-use crate::modes::Mode;
+use crate::outline::Outline;
 use crate::plan::Plan;
-use grids::{Shape, Vector};
+use grids::Vector;
 use layers::Dead;
 use std::alloc::Global;
 
@@ -23,16 +23,9 @@ impl Plan {
     pub fn new(heap: Global, mode: usize, width: usize, height: usize) -> Result<Plan, NoPlan>
         ensures { Made mode width height result }
     {
-        let Some(mode) = Mode::from_number(mode) else {
-            return Err(NoPlan::Refused(PlanFault::Mode));
-        };
-        let Some(shape) = Shape::new(mode.form(), width, height) else {
-            return Err(NoPlan::Refused(PlanFault::Size));
-        };
-        let grid = Grid::new(heap, mode, shape)?;
-        let Ok(plate) = Dead::new(heap, grid) else {
-            return Err(NoPlan::Memory);
-        };
+        let outline = Outline::new(mode, width, height)?;
+        let grid = Grid::new(heap, outline)?;
+        let plate = Dead::new(heap, grid).map_err(|_| NoPlan::Memory)?;
         Ok(Plan { plate })
     }
 
@@ -46,7 +39,7 @@ impl Plan {
 
     // One vector more at the end of the list of one side of an element. Refuses, in this order, an element that does not exist, a side
     // that is wrong for the mode, a coordinate that is not -63 to 63, a sum that the mode does not allow, a vector that the list has,
-    // and a list of 32.
+    // and a list of 32: it is given numbers, as a fitter enters them, since each has a refusal of its own.
     pub fn add_vector(
         &mut self,
         element: usize,
@@ -64,6 +57,7 @@ impl Plan {
     }
 
     // Makes a cell dead. Refuses, in this order, a cell that does not exist, one that is dead already, and a full table of 64.
+    #[tactic(auto, using(layers::proofs::Killing::killed_below))]
     pub fn kill(&mut self, cell: usize) -> Result<(), PlanFault>
         ensures answer { result ≡ dead_answer (design_of self.old) cell }
         ensures after { design_of self.new ≡ dead_added (design_of self.old) cell }
@@ -85,7 +79,6 @@ impl Plan {
     pub fn into_plate(self) -> Dead<Grid>
         ensures { result ≡ self.plate }
     {
-        let Plan { plate } = self;
-        plate
+        self.plate
     }
 }

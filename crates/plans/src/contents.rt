@@ -2,54 +2,39 @@
 ghost use Rattle.std.specs.Prelude.{◌≡◌, length, slice_index_or};
 ghost use Rattle.plans.specs.Drawings.{blank};
 ghost use Rattle.plans.specs.Fitting.{list_on};
-ghost use Rattle.plans.specs.Modes.{mode_number};
 ghost use Rattle.plans.specs.Plans.{design_of, cells_in, cells_planned};
 
-use crate::asking::asked;
 use crate::faults::PlanFault;
 use crate::modes::{Mode, Side};
+use crate::outline::Outline;
 use crate::plan::Plan;
 use grids::Vector;
-
-impl Mode {
-    // The number of the mode.
-    pub fn number(self) -> usize
-        ensures { result ≡ mode_number self }
-    {
-        match self {
-            Mode::Strict => 1,
-            Mode::Weak => 2,
-            Mode::Independent => 3,
-            Mode::Strong => 4,
-        }
-    }
-}
 
 impl Plan {
     // How many cells a plan of that mode and size has; refused as `new` refuses. No memory is needed.
     pub fn cells_for(mode: usize, width: usize, height: usize) -> Result<usize, PlanFault>
         ensures { result ≡ cells_planned mode width height }
     {
-        let (_, shape) = asked(mode, width, height)?;
-        Ok(shape.cells())
+        let outline = Outline::new(mode, width, height)?;
+        Ok(outline.shape().cells())
     }
 
     pub fn mode(&self) -> Mode
         ensures { result ≡ (design_of self.now).drawing.mode }
     {
-        self.plate.lower.mode
+        self.plate.lower.outline.mode
     }
 
     pub fn width(&self) -> usize
         ensures { result ≡ (design_of self.now).drawing.width }
     {
-        self.plate.lower.width
+        self.plate.lower.outline.shape.width
     }
 
     pub fn height(&self) -> usize
         ensures { result ≡ (design_of self.now).drawing.height }
     {
-        self.plate.lower.height
+        self.plate.lower.outline.shape.height
     }
 
     // How many cells there are, the dead ones among them.
@@ -63,7 +48,7 @@ impl Plan {
     pub fn elements(&self) -> usize
         ensures { result ≡ length (design_of self.now).drawing.elements }
     {
-        self.plate.lower.count()
+        self.plate.lower.table.count()
     }
 
     // The vectors of one side of an element in order of entry; none where there is no such element.

@@ -1,21 +1,13 @@
 // What is asked of the elements of a grid.
-ghost use Rattle.std.specs.Prelude.{◌≡◌, ◌<◌, ◌≤◌, vec_len, slice_index_or};
-ghost use Rattle.plans.specs.Drawings.{blank, zero_vector, fan_of, place_at};
+ghost use Rattle.std.specs.Prelude.{◌≡◌, length, option_copied, slice_index_or};
+ghost use Rattle.std.specs.Option.{option_map_or};
+ghost use Rattle.plans.specs.Drawings.{blank, fan_of, place_at};
 ghost use Rattle.plans.specs.Fitting.{list_on};
 ghost use Rattle.plans.specs.Holdings.{lists_of, elements_of};
 
 use crate::modes::{Mode, Side};
-use crate::tables::{Element, Table, VectorList};
+use crate::tables::{Element, Table};
 use grids::{Movers, Place, Vector};
-
-impl VectorList {
-    fn vector(&self, i: usize) -> Vector
-        requires { i < vec_len self.now.items }
-        ensures { result ≡ slice_index_or self.now.items.items i zero_vector }
-    {
-        self.items[i]
-    }
-}
 
 impl Element {
     // The vectors of one side.
@@ -38,51 +30,51 @@ impl Element {
     fn place(&self, mode: Mode, p: usize) -> Option<Place>
         ensures { result ≡ place_at mode (lists_of self.now) p }
     {
-        let firsts = self.first.items.len();
-        if p < firsts {
+        let firsts = self.vectors(Side::First);
+        if let Some(&vector) = firsts.get(p) {
             return Some(Place {
                 movers: mode.first_movers(),
-                vector: self.first.vector(p),
+                vector,
             });
         }
-        if p - firsts < self.second.items.len() {
-            return Some(Place {
-                movers: Movers::Odd,
-                vector: self.second.vector(p - firsts),
-            });
-        }
-        None
+        let &vector = self.vectors(Side::Second).get(p - firsts.len())?;
+        Some(Place {
+            movers: Movers::Odd,
+            vector,
+        })
     }
 }
 
 impl Table {
+    // How many elements there are.
+    pub(crate) fn count(&self) -> usize
+        ensures { result ≡ length (elements_of self.now) }
+    {
+        self.elements.len()
+    }
+
+    // The element with that number, if there is one.
+    fn get(&self, e: usize) -> Option<&Element>
+        ensures { option_map_or lists_of (option_copied result) blank ≡ slice_index_or (elements_of self.now) e blank }
+    {
+        self.elements.get(e)
+    }
+
     pub(crate) fn vectors(&self, e: usize, side: Side) -> &[Vector]
-        requires { self.now.count ≤ 8 }
         ensures { result.now ≡ list_on side (slice_index_or (elements_of self.now) e blank) }
     {
-        if e >= self.count {
-            return &[];
-        }
-        self.elements[e].vectors(side)
+        self.get(e).map_or(&[], |element| element.vectors(side))
     }
 
     pub(crate) fn fan(&self, e: usize) -> usize
-        requires { self.now.count ≤ 8 }
         ensures { result ≡ fan_of (slice_index_or (elements_of self.now) e blank) }
     {
-        if e >= self.count {
-            return 0;
-        }
-        self.elements[e].fan()
+        self.get(e).map_or(0, Element::fan)
     }
 
     pub(crate) fn place(&self, mode: Mode, e: usize, p: usize) -> Option<Place>
-        requires { self.now.count ≤ 8 }
         ensures { result ≡ place_at mode (slice_index_or (elements_of self.now) e blank) p }
     {
-        if e >= self.count {
-            return None;
-        }
-        self.elements[e].place(mode, p)
+        self.get(e)?.place(mode, p)
     }
 }

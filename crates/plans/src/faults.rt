@@ -29,7 +29,7 @@ pub enum NoPlan {
 }
 
 impl PlanFault {
-    // The number of the refusal.
+    // The number of the refusal. By a `match`, since a case that holds a value has no discriminant to cast.
     pub fn number(self) -> u8
         ensures { result ≡ plan_fault_number self }
     {
@@ -48,6 +48,7 @@ impl PlanFault {
     }
 }
 
+// The conversions are by hand, since the contracts name the case that `?` makes, and a derived one promises none.
 impl From<KillFault> for PlanFault {
     ghost from_gives = { λ f r. r ≡ Kill f };
 

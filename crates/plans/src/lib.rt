@@ -1,7 +1,6 @@
 #![tactic(auto)]
 
 mod adding;
-mod asking;
 mod calls;
 mod contents;
 mod elements;
@@ -9,6 +8,8 @@ mod faults;
 mod grid;
 mod making;
 mod modes;
+mod near;
+mod outline;
 mod plan;
 mod plating;
 mod tables;
@@ -16,4 +17,5 @@ mod tables;
 pub use faults::{NoPlan, PlanFault};
 pub use grid::Grid;
 pub use modes::{Mode, Side};
+pub use outline::Outline;
 pub use plan::Plan;

@@ -1,36 +1,49 @@
-ghost use Rattle.std.specs.Prelude.{◌≡◌};
-ghost use Rattle.plans.specs.Modes.{mode_of, form_of, side_of, first_movers, allowed};
+ghost use Rattle.std.specs.Prelude.{◌≡◌, ok_or};
+ghost use Rattle.plans.specs.Modes.{mode_of, mode_number, form_of, side_of, first_movers, allowed};
+ghost use Rattle.plans.specs.declared.faults.PlanFault.TheVariants as fault;
 
+use crate::faults::PlanFault;
 use grids::{Form, Movers};
 
 // The modes of a plan. The first three have the flat plate, the strong one the stack plate.
-#[derive(Clone, Copy)]
+#[derive(Clone, Copy, PartialEq, Debug)]
 pub enum Mode {
-    Strict,
-    Weak,
-    Independent,
-    Strong,
+    Strict = 1,
+    Weak = 2,
+    Independent = 3,
+    Strong = 4,
 }
 
 // The two lists of an element: the first is side 0 or side 1, the second side 2.
-#[derive(Clone, Copy)]
+#[derive(Clone, Copy, PartialEq, Debug)]
 pub enum Side {
     First,
     Second,
 }
 
-impl Mode {
-    // The mode with that number, or none.
-    pub(crate) fn from_number(number: usize) -> Option<Mode>
-        ensures { result ≡ mode_of number }
-    {
+// The mode with a number. Refuses a number that is not 1 to 4.
+impl TryFrom<usize> for Mode {
+    type Error = PlanFault;
+
+    ghost try_from_gives = { λ number r. r ≡ ok_or (mode_of number) fault.Mode };
+
+    fn try_from(number: usize) -> Result<Mode, PlanFault> {
         match number {
-            1 => Some(Mode::Strict),
-            2 => Some(Mode::Weak),
-            3 => Some(Mode::Independent),
-            4 => Some(Mode::Strong),
-            _ => None,
+            1 => Ok(Mode::Strict),
+            2 => Ok(Mode::Weak),
+            3 => Ok(Mode::Independent),
+            4 => Ok(Mode::Strong),
+            _ => Err(PlanFault::Mode),
         }
+    }
+}
+
+impl Mode {
+    // The number of the mode.
+    pub fn number(self) -> usize
+        ensures { result ≡ mode_number self }
+    {
+        self as usize
     }
 
     // The form of the plate.
@@ -69,12 +82,12 @@ impl Mode {
     pub(crate) fn allows(self, side: Side, sum: isize) -> bool
         ensures { result ≡ allowed self side sum }
     {
-        match (self, side) {
-            (Mode::Strict, Side::First) => sum == 0,
-            (Mode::Weak | Mode::Independent, Side::First) => sum == 0 || sum == 1,
-            (Mode::Independent, Side::Second) => sum == 0 || sum == -1,
-            (Mode::Strong, Side::First) => sum == -1 || sum == 0 || sum == 1,
-            _ => false,
-        }
+        matches!(
+            (self, side, sum),
+            (Mode::Strict, Side::First, 0)
+                | (Mode::Weak | Mode::Independent, Side::First, 0..=1)
+                | (Mode::Independent, Side::Second, -1..=0)
+                | (Mode::Strong, Side::First, -1..=1)
+        )
     }
 }

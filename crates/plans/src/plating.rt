@@ -1,12 +1,12 @@
 // A grid as a two-way plate.
-ghost use Rattle.std.specs.Prelude.{◌≡◌, length};
+ghost use Rattle.std.specs.Prelude.{◌≡◌};
 ghost use Rattle.grids.specs.Extents.{extent_of};
-ghost use Rattle.plans.specs.Drawings.{extent_in, place_in, led_back_by, grid};
+ghost use Rattle.plans.specs.Drawings.{extent_in, place_in, grid};
 ghost use Rattle.plans.specs.Grids.{drawing_of};
 ghost use Rattle.plans.specs.GridLaws.{grid_sound, grid_single};
 
 use crate::grid::Grid;
-use grids::Shape;
+use grids::{Place, Shape};
 use plates::{Plate, TwoWayPlate};
 
 impl Grid {
@@ -14,27 +14,14 @@ impl Grid {
     pub fn shape(&self) -> Shape
         ensures { extent_of result ≡ extent_in (drawing_of self.now) }
     {
-        Shape {
-            form: self.mode.form(),
-            width: self.width,
-            height: self.height,
-        }
+        self.outline.shape
     }
 
-    // How many elements there are.
-    pub(crate) fn count(&self) -> usize
-        ensures elements { result ≡ length (drawing_of self.now).elements }
-        ensures count { result ≡ self.now.table.count }
+    // The place with a number of an element, if there is one.
+    fn place(&self, element: usize, place: usize) -> Option<Place>
+        ensures { result ≡ place_in (drawing_of self.now) element place }
     {
-        self.table.count
-    }
-
-    // The cell that a place leads to a cell.
-    fn source(&self, element: usize, place: usize, cell: usize) -> Option<usize>
-        ensures { result ≡ led_back_by (extent_in (drawing_of self.now)) (place_in (drawing_of self.now) element place) cell }
-    {
-        let place = self.table.place(self.mode, element, place)?;
-        place.back(self.shape(), cell)
+        self.table.place(self.outline.mode, element, place)
     }
 }
 
@@ -48,7 +35,7 @@ impl Plate for Grid {
     }
 
     fn elements(&self) -> usize {
-        self.count()
+        self.table.count()
     }
 
     fn fan(&self, element: usize) -> usize {
@@ -56,15 +43,15 @@ impl Plate for Grid {
     }
 
     fn target(&self, element: usize, place: usize, cell: usize) -> Option<usize> {
-        let place = self.table.place(self.mode, element, place)?;
-        place.target(self.shape(), cell)
+        self.place(element, place)?.target(self.shape(), cell)
     }
 }
 
+// Beside `target`, which asks another question of the place: one function for both would take that question as a closure.
 impl TwoWayPlate for Grid {
     ghost single = { grid_single };
 
     fn back(&self, element: usize, place: usize, cell: usize) -> Option<usize> {
-        self.source(element, place, cell)
+        self.place(element, place)?.back(self.shape(), cell)
     }
 }

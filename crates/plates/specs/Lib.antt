@@ -3,8 +3,5 @@ pub mod Faults
 pub mod Links
 pub mod Lists
 pub mod Meanings
-pub mod Rows
 pub mod TwoWays
 pub mod Soundness
-pub mod Entries
-pub mod Within

@@ -1,13 +1,12 @@
 -- The links that a block plate holds, and what making one answers. Assumes nothing.
-use Rattle.std.specs.Prelude.{◌≡◌, ℕ, Bool, true, false, ◌&&◌, List, [], replicate, Ok, Err, vec_items, Result, nat_le}
+use Rattle.std.specs.Prelude.{◌≡◌, ℕ, Bool, true, false, ◌&&◌, List, [], map, replicate, Ok, Err, vec_items, Result, nat_le}
 use Rattle.plates.specs.declared.blocks.BlockPlate.{BlockPlate}
 use Rattle.plates.specs.declared.faults.BlockFault.{BlockFault}
 use Rattle.plates.specs.declared.faults.BlockFault.TheVariants.{Count, Memory}
-use Rattle.plates.specs.Rows.{all_listed}
 
 -- for each block of a plate, the list of its neighbours in order of entry
 abbrev pub links_of : BlockPlate → List (List ℕ)
-links_of p = all_listed (vec_items p.rows)
+links_of p = map (λ row. row.items) (vec_items p.rows)
 
 -- a plate has 1 to 256 blocks
 abbrev pub lawful_count : ℕ → Bool

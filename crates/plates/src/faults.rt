@@ -8,13 +8,13 @@ pub enum BlockFault {
     Memory,
 }
 
-// Why two blocks are not linked: one of them does not exist, they are the same block or linked already, one of them has seven
-// neighbours.
+// Why two blocks are not linked, with the number of the refusal: one of them does not exist, they are the same block or linked
+// already, one of them has seven neighbours.
 #[derive(Clone, Copy, PartialEq, Debug)]
 pub enum LinkFault {
-    NoBlock,
-    Linked,
-    Full,
+    NoBlock = 17,
+    Linked = 24,
+    Full = 25,
 }
 
 impl BlockFault {
@@ -34,10 +34,6 @@ impl LinkFault {
     pub fn number(self) -> u8
         ensures { result ≡ link_fault_number self }
     {
-        match self {
-            LinkFault::NoBlock => 17,
-            LinkFault::Linked => 24,
-            LinkFault::Full => 25,
-        }
+        self as u8
     }
 }

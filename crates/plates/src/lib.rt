@@ -4,10 +4,8 @@ mod blocks;
 mod faults;
 mod links;
 mod makes;
-mod neighbours;
 mod places;
 mod plate;
-mod rows;
 mod two_way;
 
 pub use blocks::BlockPlate;

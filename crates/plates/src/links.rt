@@ -1,24 +1,16 @@
-// The links of a block plate: how they are read, and how two blocks are linked.
+// The links of a block plate: how they are read, and how two blocks are linked. The two are no struct: it would be made for one call.
 ghost use Rattle.std.specs.Prelude.{◌≡◌, ◌<◌, ◌≤◌, true, [], length, MatchOption, slice_index_or};
 ghost use Rattle.plates.specs.Blocks.{has_room, link_answer, with_neighbour, linked};
 ghost use Rattle.plates.specs.Links.{links_of};
-ghost use Rattle.plates.specs.Rows.{listed};
 
 use crate::blocks::BlockPlate;
 use crate::faults::LinkFault;
-use crate::neighbours::Neighbours;
+use arrayvec::ArrayVec;
 
 impl BlockPlate {
-    // How many blocks there are.
-    pub(crate) fn count(&self) -> usize
-        ensures { result ≡ length (links_of self.now) }
-    {
-        self.rows.len()
-    }
-
     // The neighbours of a block, if it exists.
-    pub(crate) fn row(&self, block: usize) -> Option<&Neighbours>
-        ensures { MatchOption result (length (links_of self.now) ≤ block) (λ row. (block < length (links_of self.now)) × (listed row.now ≡ slice_index_or (links_of self.now) block [])) }
+    pub(crate) fn row(&self, block: usize) -> Option<&ArrayVec<usize, 7>>
+        ensures { MatchOption result (length (links_of self.now) ≤ block) (λ row. (block < length (links_of self.now)) × (row.now.items ≡ slice_index_or (links_of self.now) block [])) }
     {
         self.rows.get(block)
     }
@@ -34,16 +26,17 @@ impl BlockPlate {
     }
 
     // Whether two blocks may be linked, and if not, why.
+    #[tactic(auto, using(std::proofs::lemmas::Bool::Decides::nat_tests))]
     fn may_link(&self, a: usize, b: usize) -> Result<(), LinkFault>
         ensures { result ≡ link_answer (links_of self.now) a b }
     {
         let (Some(first), Some(second)) = (self.row(a), self.row(b)) else {
             return Err(LinkFault::NoBlock);
         };
-        if a == b || first.has(b) || second.has(a) {
+        if a == b || first.contains(&b) || second.contains(&a) {
             return Err(LinkFault::Linked);
         }
-        if !first.has_room() || !second.has_room() {
+        if first.is_full() || second.is_full() {
             return Err(LinkFault::Full);
         }
         Ok(())

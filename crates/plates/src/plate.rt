@@ -18,7 +18,8 @@ pub trait Plate {
     fn fan(&self, element: usize) -> usize
         ensures { result ≡ (meaning self.now).fan element };
 
-    // The cell that a place of an element leads a cell to, or none.
+    // The cell that a place of an element leads a cell to, or none. The three numbers are no struct: it would be made for each question
+    // and taken apart at once.
     fn target(&self, element: usize, place: usize, cell: usize) -> Option<usize>
         ensures { result ≡ (meaning self.now).target element place cell };
 

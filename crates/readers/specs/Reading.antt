@@ -9,7 +9,11 @@ use Rattle.lines.specs.Lines.{then}
 use Rattle.jobs.specs.Files.{begun, finished, decode, opened}
 use Rattle.jobs.specs.Heads.{measured}
 use Rattle.jobs.specs.Jobs.{Job, encode}
+use Rattle.plans.specs.declared.faults.NoPlan.{NoPlan}
+use Rattle.plans.specs.declared.faults.NoPlan.TheVariants as plan
 use Rattle.jobs.specs.declared.faults.FileFault.{FileFault}
+use Rattle.jobs.specs.declared.faults.FileFault.TheVariants as fault
+use Rattle.jobs.specs.declared.faults.Stop.{Stop}
 use Rattle.jobs.specs.declared.heads.Head.{Head}
 use Rattle.jobs.specs.declared.orders.Order.{Order}
 use Rattle.drafts.specs.Drafts.{draft_of}
@@ -17,9 +21,14 @@ use Rattle.drafts.specs.declared.drafts.Reader.{Reader}
 use Rattle.readers.specs.declared.faults.NoJob.{NoJob}
 use Rattle.readers.specs.declared.faults.NoJob.TheVariants.{Refused, Memory}
 
--- a refusal of line 1
-abbrev pub refused_first : FileFault → NoJob
-refused_first f = Refused (record { fault = f; line = 1 })
+-- a fault of line 1
+abbrev pub first : FileFault → Stop
+first f = record { fault = f; line = 1 }
+
+-- why no job is read where no plan is made: only line 1 asks for a plan
+abbrev pub without_plan : NoPlan → NoJob
+without_plan (plan.Refused f) = Refused (first (fault.Plan f))
+without_plan plan.Memory = Memory
 
 -- a record for an order, not yet run
 abbrev pub fresh : Order → Record
@@ -30,16 +39,10 @@ abbrev pub Counted : Head → Type 0
 Counted h = cells_planned h.mode h.width h.height ≡ Ok h.cells
 
 module _ {V : Type 0} (k : Values V) (w : Written V) where
-  -- the plan that line 1 asks for; without one line 1 is refused, or it is accepted and memory is wanting
-  abbrev pub Planned : ℕ → Head → Result Plan NoJob → Type 0
-  Planned size h (Ok p) = (opened k w size h ≡ Ok (design_of p)) × (cells_in (design_of p) ≡ size)
-  Planned size h (Err (Refused s)) = opened k w size h ≡ Err s
-  Planned size h (Err Memory) = is_ok (opened k w size h) ≡ true
-
   -- A reader for what stands after line 1: the plan that line 1 asks for, and nothing else yet. Without one line 1 is refused, or it
   -- is accepted and memory is wanting.
   abbrev pub Opens : ℕ → ℕ → Head → Result (Reader V) NoJob → Type 0
-  Opens size room h (Ok r) = (opened k w size h ≡ Ok (design_of r.plan)) × (draft_of r ≡ begun (design_of r.plan)) × (r.size ≡ size) × (r.room ≡ room)
+  Opens size room h (Ok r) = (opened k w size h ≡ Ok (design_of r.plan)) × (draft_of r ≡ begun (design_of r.plan)) × (cells_in (design_of r.plan) ≡ size) × (r.room ≡ room)
   Opens size room h (Err (Refused s)) = opened k w size h ≡ Err s
   Opens size room h (Err Memory) = is_ok (opened k w size h) ≡ true
 
@@ -50,7 +53,7 @@ module _ {V : Type 0} (k : Values V) (w : Written V) where
 
   -- a reader that holds the job of a file
   abbrev pub Drafts : ℕ → ℕ → List ℕ → Result (Reader V) NoJob → Type 0
-  Drafts size room bs (Ok r) = (decode k w size room bs ≡ Ok (finished k (draft_of r))) × (r.size ≡ size) × (r.room ≡ room)
+  Drafts size room bs (Ok r) = (decode k w size room bs ≡ Ok (finished k (draft_of r))) × (cells_in (design_of r.plan) ≡ size) × (r.room ≡ room)
   Drafts size room bs (Err f) = Rejected size room bs f
 
   -- A file that was read: its job, and where that stands. The records beyond the moves are left.

@@ -1,5 +1,6 @@
 // What a reader has read goes where it was asked for.
 ghost use Rattle.std.specs.Prelude.{◌≡◌, ◌≤◌, ◌++◌, map, length, drop, vec_capacity};
+ghost use Rattle.plans.specs.Plans.{design_of, cells_in};
 ghost use Rattle.jobs.specs.Jobs.{padded};
 ghost use Rattle.readers.specs.Reading.{fresh};
 
@@ -9,7 +10,7 @@ use kinds::{Kind, WrittenKind};
 use morphology::Record;
 use plans::Plan;
 
-// A record for a move, not yet run.
+// A record for a move, not yet run. A function beside its one use: a `From` would have to stand in `jobs`, and be as long.
 fn fresh(order: Order) -> Record
     ensures { result ≡ fresh order }
 {
@@ -26,8 +27,9 @@ fn fill_records(orders: &[Order], records: &mut [Record])
     requires { length orders.now ≤ length records.old }
     ensures { records.new ≡ map fresh orders.now ++ drop (length orders.now) records.old }
 {
-    for i in 0..orders.len() {
-        records[i] = fresh(orders[i]);
+    // What a loop over `iter_mut().zip(..)` writes is not known to a proof, so the place comes with the order.
+    for (at, order) in orders.iter().enumerate() {
+        records[at] = fresh(*order);
     }
 }
 
@@ -36,17 +38,18 @@ fn fill_picture<K: Kind>(mut cells: Vec<K>, picture: &mut [K])
     requires { length picture.old ≤ vec_capacity cells }
     ensures { picture.new ≡ padded K.Kind.values (length picture.old) cells.items }
 {
+    // It cannot fail, since there is room; the library has no such call without a result.
     let _ = cells.resize(picture.len(), K::least());
     picture.copy_from_slice(cells.as_slice());
 }
 
-// Fills the picture and the records, and answers the plan and the number of moves.
-pub(crate) fn fill<K: WrittenKind>(
+// Fills the picture and the records with what was read, and answers the plan and the number of moves.
+pub(crate) fn finish<K: WrittenKind>(
     reader: Reader<K>,
     picture: &mut [K],
     records: &mut [Record],
 ) -> (Plan, usize)
-    requires size { length picture.old ≡ reader.size }
+    requires size { length picture.old ≡ cells_in (design_of reader.plan) }
     requires room { reader.room ≡ length records.old }
     ensures plan { result.0 ≡ reader.plan }
     ensures moves { result.1 ≡ length reader.orders.items }
@@ -54,12 +57,10 @@ pub(crate) fn fill<K: WrittenKind>(
     ensures records { records.new ≡ map fresh reader.orders.items ++ drop (length reader.orders.items) records.old }
 {
     let Reader {
-        section: _,
         plan,
         cells,
         orders,
-        size: _,
-        room: _,
+        ..
     } = reader;
     fill_picture(cells, picture);
     fill_records(orders.as_slice(), records);

@@ -1,40 +1,15 @@
-// How reading begins and ends.
-ghost use Rattle.std.specs.Prelude.{◌≡◌};
-ghost use Rattle.readers.specs.Reading.{Counted, Opens, Planned, refused_first};
+// How reading begins.
+ghost use Rattle.readers.specs.Reading.{Counted, Opens};
 
-use crate::faults::NoJob;
+use crate::faults::{NoJob, first};
 use drafts::Reader;
-use jobs::{FileFault, Head, Section, Stop};
+use jobs::{FileFault, Head, Section};
 use kinds::WrittenKind;
-use plans::{NoPlan, Plan};
+use plans::Plan;
 use std::alloc::Global;
 
-// A refusal of line 1.
-fn first(fault: FileFault) -> NoJob
-    ensures { result ≡ refused_first fault }
-{
-    NoJob::Refused(Stop { fault, line: 1 })
-}
-
-// The plan that line 1 asks for, where the kind and the size of the picture agree with it.
-fn plan_for<K: WrittenKind>(heap: Global, head: Head, size: usize) -> Result<Plan, NoJob>
-    requires { Counted head }
-    ensures { Planned K.Kind.values K.WrittenKind.written size head result }
-{
-    if head.code != K::code() as usize {
-        return Err(first(FileFault::OtherKind));
-    }
-    if size != head.cells {
-        return Err(first(FileFault::PictureLength));
-    }
-    match Plan::new(heap, head.mode, head.width, head.height) {
-        Ok(plan) => Ok(plan),
-        Err(NoPlan::Refused(fault)) => Err(first(FileFault::Plan(fault))),
-        Err(NoPlan::Memory) => Err(NoJob::Memory),
-    }
-}
-
-// A reader for what stands after line 1, with room for every cell and for as many moves as asked.
+// A reader for what stands after line 1: the plan that line 1 asks for, where the kind and the size of the picture agree with it, and
+// room for every cell and for as many moves as asked.
 pub(crate) fn open<K: WrittenKind>(
     heap: Global,
     head: Head,
@@ -44,7 +19,13 @@ pub(crate) fn open<K: WrittenKind>(
     requires { Counted head }
     ensures { Opens K.Kind.values K.WrittenKind.written size room head result }
 {
-    let plan = plan_for::<K>(heap, head, size)?;
+    if head.kind.code() != K::code() {
+        return Err(NoJob::Refused(first(FileFault::OtherKind)));
+    }
+    if size != head.cells {
+        return Err(NoJob::Refused(first(FileFault::PictureLength)));
+    }
+    let plan = Plan::new(heap, head.mode, head.width, head.height)?;
     let cells = Vec::with_capacity(heap, size)?;
     let orders = Vec::with_capacity(heap, room)?;
     Ok(Reader {
@@ -52,7 +33,6 @@ pub(crate) fn open<K: WrittenKind>(
         plan,
         cells,
         orders,
-        size,
         room,
     })
 }

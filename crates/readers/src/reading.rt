@@ -1,9 +1,9 @@
-// Reading a job from a file.
+// Reading a job from a file. The heap and the bytes go side by side, and are no one thing.
 ghost use Rattle.readers.specs.Reading.{Drafts, Reads};
 ghost use Rattle.jobs.specs.Files.{JobAndFile};
 
 use crate::faults::NoJob;
-use crate::filling::fill;
+use crate::filling::finish;
 use crate::measuring::measure;
 use crate::opening::open;
 use drafts::Reader;
@@ -28,19 +28,6 @@ fn read_lines<K: WrittenKind>(
     Ok(reader)
 }
 
-// Reads a job into the picture and the records.
-fn read_into<K: WrittenKind>(
-    heap: Global,
-    bytes: &[u8],
-    picture: &mut [K],
-    records: &mut [Record],
-) -> Result<(Plan, usize), NoJob>
-    ensures { Reads K.Kind.values K.WrittenKind.written bytes.now result picture.old picture.new records.old records.new }
-{
-    let reader = read_lines(heap, bytes, picture.len(), records.len())?;
-    Ok(fill(reader, picture, records))
-}
-
 // Reads a job: fills the picture and the records, those beyond the moves being left, and answers the plan and the number of moves.
 // Nothing is altered before the last byte was judged. Refuses what `measure` refuses, then another kind, then a picture that has not
 // one value for each cell; then line by line, each refusal with its line. Fails for want of memory once line 1 was accepted.
@@ -55,5 +42,6 @@ pub fn read<K: WrittenKind>(
 {
     // It does nothing at run time; its promise is the one named `fixed`.
     job_and_file::<K>();
-    read_into(heap, bytes, picture, records)
+    let reader = read_lines(heap, bytes, picture.len(), records.len())?;
+    Ok(finish(reader, picture, records))
 }

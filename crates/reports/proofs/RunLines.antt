@@ -1,7 +1,6 @@
 -- The lines that are told of a run, counted and put together. Assumes nothing.
-use Rattle.std.proofs.Common.{◌≡◌, ℕ, ◌+◌, ◌*◌, List, [], ◌∷◌, ◌++◌, length, take, drop, sym, ap, ◌∙◌, append_assoc, append-nil, arith, length-append}
-use Rattle.std.specs.List.{flat_map}
-use Rattle.std.proofs.lemmas.List.Edits.{paste_all}
+use Rattle.std.proofs.Common.{◌≡◌, ℕ, ◌+◌, ◌*◌, List, [], ◌∷◌, ◌++◌, map, length, take, drop, ap, ◌∙◌, ap₂, append_assoc, append-nil, arith, length-append}
+use Rattle.std.specs.List.{flat_map, filter_map, enumerate_from}
 use Rattle.std.proofs.lemmas.List.{drop_all, take_all}
 use Rattle.kinds.specs.Lattices.{Values}
 use Rattle.kinds.specs.Numbers.{Written}
@@ -14,30 +13,38 @@ use Rattle.lines.specs.declared.line.Line.{Line}
 use Rattle.jobs.specs.Entries.{listed, cell_entry, last_line}
 use Rattle.writers.specs.Writing.{with_lines}
 use Rattle.writers.proofs.LineCounts.{each_listed, cells_listed}
-use Rattle.writers.proofs.Placing.{length_lines}
+use Rattle.writers.proofs.Listing.{mapped, filtered}
 use Rattle.reports.specs.Reports.{done_line, done_entry, area_line, wide_line, run_lines}
 
 -- the parts one behind the other are the whole
-pub grouped : (a b c : Line) (ds cs : List Line) → (((ds ++ cs) ++ (a ∷ [])) ++ (b ∷ [])) ++ (c ∷ []) ≡ ds ++ (cs ++ (a ∷ (b ∷ (c ∷ []))))
+grouped : (a b c : Line) (ds cs : List Line) → (((ds ++ cs) ++ (a ∷ [])) ++ (b ∷ [])) ++ (c ∷ []) ≡ ds ++ (cs ++ (a ∷ (b ∷ (c ∷ []))))
 grouped a b c ds cs = append_assoc ((ds ++ cs) ++ (a ∷ [])) (b ∷ []) (c ∷ []) ∙ append_assoc (ds ++ cs) (a ∷ []) (b ∷ (c ∷ [])) ∙ append_assoc ds cs (a ∷ (b ∷ (c ∷ [])))
 
 parts_count : (a b c : Line) (ds cs : List Line) → length (ds ++ (cs ++ (a ∷ (b ∷ (c ∷ []))))) ≡ length ds + length cs + 3
 parts_count a b c ds cs = omega (arith, length-append ds (cs ++ (a ∷ (b ∷ (c ∷ [])))), length-append cs (a ∷ (b ∷ (c ∷ []))))
 
 module _ {V : Type 0} (k : Values V) (w : Written V) (g : Extent) (rs : List Record) (b : List V) where
-  pub listed_count : length (run_lines k w g rs b) ≡ length (listed done_entry 0 rs) + length (listed (cell_entry k w) 0 b) + 3
-  listed_count = parts_count (area_line (area k b)) (wide_line (widest_of (row_counts k g b))) last_line (listed done_entry 0 rs) (listed (cell_entry k w) 0 b)
-
   -- a line for each record, a line for each cell that is not least, and three
   pub run_count : length (run_lines k w g rs b) ≡ length rs + area k b + 3
-  run_count = omega (arith, listed_count, each_listed (λ n. done_line) 0 rs, cells_listed k w 0 b)
+  run_count =
+      let a = area_line (area k b) in
+      let all = parts_count a (wide_line (widest_of (row_counts k g b))) last_line (listed done_entry 0 rs) (listed (cell_entry k w) 0 b) in
+      omega (arith, all, each_listed (λ n. done_line) 0 rs, cells_listed k w 0 b)
+
+  -- what the iterator of a report gives
+  pub run_given : (x y z : Line) → x ≡ area_line (area k b) → y ≡ wide_line (widest_of (row_counts k g b)) → z ≡ last_line
+      → (((map done_line rs ++ filter_map (λ p. cell_entry k w p.0 p.1) (enumerate_from 0 b)) ++ (x ∷ [])) ++ (y ∷ [])) ++ (z ∷ []) ≡ run_lines k w g rs b
+  run_given x y z area_is wide_is last_is =
+      ap₂ (λ ds cs. (((ds ++ cs) ++ (x ∷ [])) ++ (y ∷ [])) ++ (z ∷ [])) (mapped done_line 0 rs) (filtered (cell_entry k w) 0 b)
+      ∙ grouped x y z (listed done_entry 0 rs) (listed (cell_entry k w) 0 b)
+      ∙ ap₂ (λ x y. listed done_entry 0 rs ++ (listed (cell_entry k w) 0 b ++ (x ∷ (y ∷ (z ∷ []))))) area_is wide_is
+      ∙ ap (λ z. listed done_entry 0 rs ++ (listed (cell_entry k w) 0 b ++ (area_line (area k b) ∷ (wide_line (widest_of (row_counts k g b)) ∷ (z ∷ []))))) last_is
 
 -- lines that fill an output are all of it
-pub filled : (out e : List ℕ) (ls : List Line) → length out ≡ 29 * length ls → e ≡ with_lines out 0 ls → e ≡ flat_map line_bytes ls
+pub filled : (out e : List ℕ) (ls : List Line) → length out ≡ 29 * length ls → e ≡ with_lines out ls → e ≡ flat_map line_bytes ls
 filled out e ls size is =
     is
-    ∙ paste_all out 0 (flat_map line_bytes ls) (29 * length ls) (sym (length_lines ls))
-    ∙ ap (λ rest. flat_map line_bytes ls ++ rest) (drop_all (0 + 29 * length ls) out (omega arith))
+    ∙ ap (λ rest. flat_map line_bytes ls ++ rest) (drop_all (29 * length ls) out (omega arith))
     ∙ append-nil (flat_map line_bytes ls)
 
 -- bytes that were lent to be filled, and came back as many

@@ -1,5 +1,5 @@
 -- The report on a file: from bytes to bytes. Assumes nothing.
-use Rattle.std.specs.Prelude.{◌≡◌, ℕ, cond, List, [], ◌∷◌, ◌++◌, map, length, Some, None, Ok, Err, vec_items, Option, Result, ◌==◌, nat_le}
+use Rattle.std.specs.Prelude.{◌≡◌, ℕ, List, [], ◌∷◌, ◌++◌, map, length, Some, None, Ok, Err, vec_items, Option, Result, nat_le}
 use Rattle.std.specs.List.{flat_map}
 use Rattle.kinds.specs.FrameSets.{frames_values, written_frames}
 use Rattle.kinds.specs.Lattices.{Values}
@@ -25,11 +25,13 @@ use Rattle.jobs.specs.Heads.{must, measured}
 use Rattle.jobs.specs.Jobs.{Job}
 use Rattle.jobs.specs.declared.faults.FileFault.TheVariants as fault
 use Rattle.jobs.specs.declared.faults.Stop.{Stop}
+use Rattle.jobs.specs.declared.heads.CellKind.{CellKind}
+use Rattle.jobs.specs.declared.heads.CellKind.TheVariants.{Touch, Level, Frames}
 use Rattle.jobs.specs.declared.heads.Head.{Head}
 use Rattle.readers.specs.Reading.{fresh}
 use Rattle.readers.specs.declared.faults.NoJob.{NoJob}
 use Rattle.readers.specs.declared.faults.NoJob.TheVariants.{Refused, Memory}
-use Rattle.reports.specs.declared.texts.Text.{Text}
+use Rattle.std.specs.declared.vec.Vec.{Vec}
 
 -- the lines of a report, word by word
 
@@ -78,12 +80,14 @@ module _ {V : Type 0} (k : Values V) (w : Written V) where
   abbrev pub kind_told : List ℕ → ℕ → Result (List Line) Stop
   kind_told bs cells = then (decode k w cells most_moves bs) (λ j. Ok (job_told j))
 
--- by the code of the kind, which line 1 has as 1, 2 or 3
+-- by the kind
+abbrev pub told_by : CellKind → List ℕ → ℕ → Result (List Line) Stop
+told_by Touch = kind_told touch_values written_touch
+told_by Level = kind_told level_values written_level
+told_by Frames = kind_told frames_values written_frames
+
 abbrev pub head_told : List ℕ → Head → Result (List Line) Stop
-head_told bs h =
-    cond (h.code == 1) (kind_told touch_values written_touch bs h.cells)
-    (cond (h.code == 2) (kind_told level_values written_level bs h.cells)
-    (kind_told frames_values written_frames bs h.cells))
+head_told bs h = told_by h.kind bs h.cells
 
 -- too many bytes are refused before all else
 abbrev pub told : List ℕ → Result (List Line) Stop
@@ -99,7 +103,7 @@ abbrev pub reported : List ℕ → List ℕ
 reported bs = flat_map line_bytes (lines_told (told bs))
 
 -- the text of some lines, or why there are none; memory may be wanting at any time
-abbrev pub Tells : Result (List Line) Stop → Result Text NoJob → Type 0
-Tells found (Ok t) = (ls : List Line) × (found ≡ Ok ls) × (vec_items t.bytes ≡ flat_map line_bytes ls)
+abbrev pub Tells : {A : Type 0} → Result (List Line) Stop → Result (Vec ℕ A) NoJob → Type 0
+Tells found (Ok t) = (ls : List Line) × (found ≡ Ok ls) × (vec_items t ≡ flat_map line_bytes ls)
 Tells found (Err (Refused s)) = found ≡ Err s
 Tells found (Err Memory) = Unit {0}

@@ -6,5 +6,5 @@ mod texts;
 mod working;
 
 pub use reporting::report;
-pub use telling::DoneLines;
+pub use telling::done_line;
 pub use texts::Report;

@@ -1,4 +1,5 @@
-// A job is read, its moves are run, and what became of it is told.
+// A job is read, its moves are run, and what became of it is told. Shape, records and picture go side by side and with the same bounds: a
+// struct of them would be made for one call.
 ghost use Rattle.std.specs.Prelude.{◌≡◌, ◌*◌, ◌≤◌, length, IfOk};
 ghost use Rattle.std.specs.List.{flat_map};
 ghost use Rattle.lines.specs.Lines.{line_bytes};
@@ -10,23 +11,12 @@ ghost use Rattle.plans.specs.Plans.{design_of, plate_of};
 ghost use Rattle.reports.specs.Reports.{most_moves, run_lines, kind_told, Tells};
 
 use crate::telling::put_run;
-use crate::texts::Text;
 use grids::Shape;
 use kinds::{Kind, WrittenKind};
 use morphology::{Record, area, run};
 use plans::Plan;
 use readers::{NoJob, read};
 use std::alloc::{AllocError, Global};
-
-// Bytes for so many lines.
-pub(crate) fn blank(heap: Global, lines: usize) -> Result<Text, AllocError>
-    requires { lines ≤ 100000 }
-    ensures { IfOk result (λ t. length t.bytes.items ≡ 29 * lines) }
-{
-    Ok(Text {
-        bytes: vec![in heap; b' '; 29 * lines]?,
-    })
-}
 
 // How many lines are told of a run: one for each record, one for each cell that is not least, and three.
 fn line_count<K: WrittenKind>(shape: Shape, records: &[Record], picture: &[K]) -> usize
@@ -44,14 +34,14 @@ fn run_text<K: WrittenKind>(
     shape: Shape,
     records: &[Record],
     picture: &[K],
-) -> Result<Text, AllocError>
+) -> Result<Vec<u8>, AllocError>
     requires cells { length picture.now ≡ cell_count (extent_of shape) }
     requires few { length records.now ≤ 2257 }
     requires small { length picture.now ≤ 24576 }
-    ensures { IfOk result (λ t. t.bytes.items ≡ flat_map line_bytes (run_lines K.Kind.values K.WrittenKind.written (extent_of shape) records.now picture.now)) }
+    ensures { IfOk result (λ t. t.items ≡ flat_map line_bytes (run_lines K.Kind.values K.WrittenKind.written (extent_of shape) records.now picture.now)) }
 {
-    let mut text = blank(heap, line_count(shape, records, picture))?;
-    put_run(shape, records, picture, text.bytes.as_mut_slice());
+    let mut text = vec![in heap; b' '; 29 * line_count(shape, records, picture)]?;
+    put_run(shape, records, picture, text.as_mut_slice());
     Ok(text)
 }
 
@@ -68,14 +58,15 @@ fn shape(plan: &Plan) -> Shape
     plan.plate().lower.shape()
 }
 
-// Reads a job into the picture and the records, runs its moves, and tells what became of it.
+// Reads a job into the picture and the records, runs its moves, and tells what became of it. The three buffers are slices of vectors that
+// one caller makes: a struct of them would be built there and taken apart here.
 fn run_job<K: WrittenKind>(
     heap: Global,
     bytes: &[u8],
     picture: &mut [K],
     memory: &mut [K],
     records: &mut [Record],
-) -> Result<Text, NoJob>
+) -> Result<Vec<u8>, NoJob>
     requires memory { length memory.old ≡ length picture.old }
     requires records { length records.old ≡ most_moves }
     ensures { Tells (kind_told K.Kind.values K.WrittenKind.written bytes.now (length picture.old)) result }
@@ -86,28 +77,17 @@ fn run_job<K: WrittenKind>(
     Ok(run_text(heap, shape(&plan), records, picture)?)
 }
 
-// So many copies of a value.
-fn copies<T: Copy>(heap: Global, count: usize, value: T) -> Result<Vec<T>, AllocError>
-    ensures { IfOk result (λ v. length v.items ≡ count) }
-{
-    let mut items = Vec::new(heap);
-    items.resize(count, value)?;
-    Ok(items)
-}
-
 // The text on a file of that kind whose plan has so many cells.
-pub(crate) fn work<K: WrittenKind>(heap: Global, bytes: &[u8], cells: usize) -> Result<Text, NoJob>
+pub(crate) fn work<K: WrittenKind>(
+    heap: Global,
+    bytes: &[u8],
+    cells: usize,
+) -> Result<Vec<u8>, NoJob>
     ensures { Tells (kind_told K.Kind.values K.WrittenKind.written bytes.now cells) result }
 {
-    let asked = Record {
-        action: 0,
-        element: 0,
-        answer: 0,
-        area: 0,
-    };
-    let mut picture = copies(heap, cells, K::least())?;
-    let mut memory = copies(heap, cells, K::least())?;
-    let mut records = copies(heap, 2257, asked)?;
+    let mut picture = vec![in heap; K::least(); cells]?;
+    let mut memory = vec![in heap; K::least(); cells]?;
+    let mut records = vec![in heap; Record::default(); 2257]?;
     run_job(
         heap,
         bytes,

@@ -2,6 +2,7 @@
 
 // Cleans a footprint on a small triangular grid by a list of moves, and prints what became of each move and of the footprint.
 use anyhow::anyhow;
+use grids::Row;
 use kinds::{Kind, Touch};
 use morphology::{Move, Record, run};
 use plans::Plan;
@@ -25,15 +26,16 @@ fn put_rubber(picture: &mut [Touch], cells: &[usize]) {
     }
 }
 
+// By the number of the move, since one that is asked for below is no move's.
 fn asked(action: u8, element: usize) -> Record {
     Record {
         action,
         element,
-        answer: 0,
-        area: 0,
+        ..Record::default()
     }
 }
 
+// One line needs no Display: that would take a wrapper of the record and an impl.
 fn print_record(rt: &impl Print, record: Record) -> io::Result<()> {
     let Record {
         action,
@@ -56,11 +58,7 @@ fn print_cells(rt: &impl Print, picture: &[Touch]) -> io::Result<()> {
 
 fn print_widest(rt: &impl Print, plan: &Plan, picture: &[Touch]) -> io::Result<()> {
     match plan.plate().lower.shape().widest(picture) {
-        Ok(Some(row)) => {
-            let y = row.y;
-            let count = row.count;
-            println!(rt; "widest row {y}, {count} cells")
-        }
+        Ok(Some(Row { y, count })) => println!(rt; "widest row {y}, {count} cells"),
         Ok(None) => println!(rt; "no rubber in any row"),
         Err(fault) => {
             let number = fault.number();

@@ -1,15 +1,18 @@
 -- Writing a job: what is refused, and what the output holds afterwards. Assumes nothing.
-use Rattle.std.specs.Prelude.{◌≡◌, ℕ, ◌+◌, ◌*◌, ◌≤◌, List, ◌++◌, map, length, drop, Ok, Err, Option, Result, ◌==◌, nat_le, slice_index_or}
-use Rattle.std.proofs.Math.Seq.{paste}
-use Rattle.std.specs.List.{flat_map}
+use Rattle.std.specs.Prelude.{◌≡◌, ℕ, ◌*◌, ◌≤◌, List, ◌++◌, map, length, drop, Ok, Err, Option, Result, ◌==◌, nat_le, slice_index_or}
+use Rattle.std.specs.Iterator.{AlwaysYields}
+use Rattle.std.specs.List.{flat_map, slice_get}
+use Rattle.std.specs.Option.{option_map}
 use Rattle.kinds.specs.Lattices.{Values}
 use Rattle.kinds.specs.Numbers.{Written}
 use Rattle.morphology.specs.declared.words.Record.{Record}
 use Rattle.lines.specs.Lines.{line_bytes}
 use Rattle.lines.specs.declared.line.Line.{Line}
+use Rattle.lines.specs.declared.numbers.Number.TheVariants.{Natural}
+use Rattle.lines.specs.declared.words.Word.{Word}
 use Rattle.plans.specs.Drawings.{blank}
 use Rattle.plans.specs.Plans.{Design, cells_in}
-use Rattle.jobs.specs.Entries.{element_lines, elements_lines, move_entry}
+use Rattle.jobs.specs.Entries.{element_lines, elements_lines, row}
 use Rattle.jobs.specs.Files.{decode}
 use Rattle.jobs.specs.Heads.{must}
 use Rattle.jobs.specs.Jobs.{Job, all_fair, job_lines, encode}
@@ -17,13 +20,17 @@ use Rattle.jobs.specs.declared.faults.WriteFault.{WriteFault}
 use Rattle.jobs.specs.declared.faults.WriteFault.TheVariants as fault
 use Rattle.jobs.specs.declared.orders.Order.{Order}
 
--- the place after some lines that begin at a place; a line has 29 bytes
-abbrev pub place_after : ℕ → List Line → ℕ
-place_after at ls = at + 29 * length ls
+-- a word and natural numbers in the first fields; the others are blank
+abbrev pub counts : Word → List ℕ → Line
+counts word ns = row word (option_map Natural (slice_get ns 0)) (option_map Natural (slice_get ns 1)) (option_map Natural (slice_get ns 2)) (option_map Natural (slice_get ns 3))
 
--- some bytes with lines written over them from a place on; the others stay
-abbrev pub with_lines : List ℕ → ℕ → List Line → List ℕ
-with_lines out at ls = paste out at (flat_map line_bytes ls) (29 * length ls)
+-- some bytes with lines written over the first of them; a line has 29 bytes, and the others stay
+abbrev pub with_lines : List ℕ → List Line → List ℕ
+with_lines out ls = flat_map line_bytes ls ++ drop (29 * length ls) out
+
+-- whatever calls are made of an iterator, it gives these lines and then no more
+pub record Gives {S : Type 0} (steps : S → Option Line → S → Type 0) (s : S) (ls : List Line) : Type 0 where
+  pub always : AlwaysYields steps (λ l. l) s ls
 
 -- the lines of one element of a plan, and of all its elements
 abbrev pub lines_of_element : Design → ℕ → List Line
@@ -35,10 +42,6 @@ lines_of_elements d = elements_lines d.drawing.mode 0 d.drawing.elements
 -- the move and the element that a record asks for; what it was answered is not written
 abbrev pub asked : Record → Order
 asked r = record { action = r.action; element = r.element }
-
--- a record has the line of what it asks for
-abbrev pub record_entry : ℕ → Record → Option Line
-record_entry i r = move_entry i (asked r)
 
 -- the job that a plan, a picture and records make
 abbrev pub job_of : {V : Type 0} → Design → List V → List Record → Job V

@@ -1,4 +1,4 @@
-// How many lines a job has.
+// How many lines a job has. Plan, picture and records are no struct: it would be made for one call, and the definitions have `job_of`.
 ghost use Rattle.std.specs.Prelude.{◌≡◌, ◌*◌, ◌≤◌, [], length, nat_le};
 ghost use Rattle.plans.specs.Plans.{design_of, cells_in};
 ghost use Rattle.jobs.specs.Jobs.{job_lines};
@@ -21,11 +21,9 @@ fn elements_lines(plan: &Plan) -> usize
     ensures count { result ≡ length (lines_of_elements (design_of plan.now)) }
     ensures few { result ≤ 520 }
 {
-    let mut count = 0;
-    for element in 0..plan.elements() {
-        count += element_lines(plan, element);
-    }
-    count
+    (0..plan.elements())
+        .map(|element| element_lines(plan, element))
+        .sum()
 }
 
 // The lines of a job without moves.
@@ -48,8 +46,5 @@ pub(crate) fn has_room<K: WrittenKind>(
     ensures { result ≡ nat_le (29 * length (job_lines K.Kind.values K.WrittenKind.written (job_of (design_of plan.now) picture.now records.now))) size }
 {
     let room = size / 29;
-    if records.len() > room {
-        return false;
-    }
-    lines_before_moves(plan, picture) + records.len() <= room
+    records.len() <= room && lines_before_moves(plan, picture) + records.len() <= room
 }

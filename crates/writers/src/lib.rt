@@ -1,10 +1,10 @@
 #![tactic(auto)]
 
 mod counting;
-mod listings;
 mod putting;
+mod rows;
 mod writing;
 
-pub use listings::{CellLines, DeadLines, Listing, MoveLines, VectLines, last_line};
-pub use putting::{put_all, put_line};
+pub use putting::put_lines;
+pub use rows::{cell_line, counts, dead_line, last_line, move_line, vect_line};
 pub use writing::write;

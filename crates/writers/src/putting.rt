@@ -1,43 +1,23 @@
 // Lines one after the other in an output.
-ghost use Rattle.std.specs.Prelude.{◌≡◌, ◌≤◌, [], ◌∷◌, length};
-ghost use Rattle.std.specs.Option.{option_to_list};
-ghost use Rattle.jobs.specs.Entries.{listed};
-ghost use Rattle.writers.specs.Writing.{place_after, with_lines};
+ghost use Rattle.std.specs.Prelude.{◌≡◌, ◌*◌, ◌≤◌, List, length};
+ghost use Rattle.std.specs.Iterator.{IsFinite};
+ghost use Rattle.lines.specs.declared.line.Line.{Line};
+ghost use Rattle.writers.specs.Writing.{with_lines, Gives};
 
-use crate::listings::Listing;
 use lines::{Line, write_line};
 
-// Writes a line at a place, leaves the rest, and answers the place after it.
-pub fn put_line(line: Line, out: &mut [u8], at: usize) -> usize
-    requires { place_after at (line ∷ []) ≤ length out.old }
-    ensures end { result ≡ place_after at (line ∷ []) }
-    ensures bytes { out.new ≡ with_lines out.old at (line ∷ []) }
+// Writes lines one after the other from the first byte on, leaves the rest, and answers the number of bytes written.
+pub fn put_lines<I: Iterator<Item = Line> + Drop>(lines: I, out: &mut [u8]) -> usize
+    requires can { I.can_next lines }
+    requires ends { IsFinite (I.remaining lines) }
+    requires told { (ls : List Line) × Gives I.next_gives lines ls × (29 * length ls ≤ length out.old) }
+    ensures { (ls : List Line) → Gives I.next_gives lines ls → (result ≡ 29 * length ls) × (out.new ≡ with_lines out.old ls) }
 {
-    write_line(line, out, at);
-    at + 29
-}
-
-// The same for a line that may be missing.
-fn put_some(line: Option<Line>, out: &mut [u8], at: usize) -> usize
-    requires { place_after at (option_to_list line) ≤ length out.old }
-    ensures end { result ≡ place_after at (option_to_list line) }
-    ensures bytes { out.new ≡ with_lines out.old at (option_to_list line) }
-{
-    match line {
-        Some(line) => put_line(line, out, at),
-        None => at,
-    }
-}
-
-// Writes the lines of the items one after the other from a place on, leaves the rest, and answers the place after them.
-pub fn put_all<T: Copy, L: Listing<T>>(listing: &L, items: &[T], out: &mut [u8], at: usize) -> usize
-    requires { place_after at (listed (L.Listing.line listing.now) 0 items.now) ≤ length out.old }
-    ensures end { result ≡ place_after at (listed (L.Listing.line listing.now) 0 items.now) }
-    ensures bytes { out.new ≡ with_lines out.old at (listed (L.Listing.line listing.now) 0 items.now) }
-{
-    let mut end = at;
-    for i in 0..items.len() {
-        end = put_some(listing.line(i, items[i]), out, end);
+    // By the place, since what a loop over `lines.zip(out.chunks_exact_mut(29))` writes is not known to a proof.
+    let mut end = 0;
+    for line in lines {
+        write_line(line, out, end);
+        end += 29;
     }
     end
 }

@@ -1,35 +1,21 @@
-use Rattle.std.proofs.Common.{◌≡◌, ℕ, zero, suc, ◌+◌, ◌-◌, ◌<◌, ◌≤◌, false, cond, eqb, List, [], ◌∷◌, length, get_or, drop, sym, refl, ap, ◌∙◌, arith}
-use Rattle.std.proofs.lemmas.Bool.{eq-eqb, ne_eqb, cond_both, cond-true, cond-false}
-use Rattle.std.proofs.lemmas.List.{at_drop_more}
+use Rattle.std.proofs.Common.{◌≡◌, ℕ, zero, suc, ◌+◌, eqb, List, [], ◌∷◌, take, Some, rules, refl, ◌∙◌, arith, tests}
+use Rattle.std.proofs.lemmas.Bool.Decides.{nat_tests}
+use Rattle.std.proofs.lemmas.Iterator.{YieldsList-from_slice, YieldsList-from_take}
+use Rattle.std.proofs.lemmas.Iterator.Adapters.{position_from-zero}
+use Rattle.std.proofs.lemmas.Iterator.Search.{position_from_yields_List}
+use Rattle.std.specs.List.{position_from}
+use Rattle.std.specs.Option.{option_eq}
 use Rattle.lines.specs.Lines.{feed_at}
 use Rattle.lines.proofs.reading.framed.Goals as goal
 
-too_short : (k : ℕ) (bs : List ℕ) → length bs ≤ k → feed_at k bs ≡ false
-too_short k [] le = refl
-too_short zero (b ∷ bs) le = absurd (omega arith)
-too_short (suc k) (b ∷ bs) le = cond_both (eqb b 10) false (feed_at k bs) (λ v. v ≡ false) (λ _. refl) (λ _. too_short k bs (omega arith))
+-- the first line feed, from k columns on
+feed_found : (i k n : ℕ) (bs : List ℕ) → n ≡ i + k → option_eq eqb (position_from (λ b. eqb b 10) i (take (suc k) bs)) (Some n) ≡ feed_at k bs
+feed_found i k n [] is = refl
+feed_found i zero n (b ∷ bs) is = grind (arith, nat_tests)
+feed_found i (suc k) n (b ∷ bs) is = grind (arith, nat_tests, feed_found (i + 1) k n bs)
 
-turn : (i : ℕ) (bs : List ℕ) → i < length bs → i < 28 → feed_at (28 - i) (drop i bs) ≡ cond (eqb (get_or bs i 0) 10) false (feed_at (28 - (i + 1)) (drop (i + 1) bs))
-turn i bs lt below = let one : 28 - i ≡ suc (28 - (i + 1)) = omega arith in at_drop_more (feed_at (28 - i)) bs i 0 lt ∙ ap (λ k. feed_at k (get_or bs i 0 ∷ drop (i + 1) bs)) one
-
-pub returns-then-bytes-lt29 : goal.returns-then-bytes-lt29
-returns-then-bytes-lt29 c = record { is = sym (too_short 28 c.args.bytes.now (omega arith)); long = λ y. let z : ◌≡◌ {A = ℕ} 0 1 = cc in absurd (omega arith) }
-
-pub returns-then-bytes-at-eq10 : goal.returns-then-bytes-at-eq10
-returns-then-bytes-at-eq10 c = record {
-  is = sym (sym c.loop-at.invariant ∙ turn c.loop-at.at c.args.bytes.now (omega arith) (omega arith) ∙ cond-true _ _ _ (eq-eqb _ 10 c.if-bytes-at-eq10.true));
-  long = λ y. omega arith;
-}
-
-pub loop-at-preserved : goal.loop-at-preserved
-loop-at-preserved c = sym (turn c.loop-at.at c.args.bytes.now (omega arith) (omega arith) ∙ cond-false _ _ _ (ne_eqb _ 10 c.if-bytes-at-eq10.false)) ∙ c.loop-at.invariant
-
-pub returns : goal.returns
-returns c =
-    let end : c.loop-at.at ≡ 28 = omega arith in
+pub returns-clause-is : goal.returns-clause-is
+returns-clause-is c =
     let bs = c.args.bytes.now in
-    let last : feed_at 0 (drop 28 bs) ≡ eqb (get_or bs 28 0) 10 = at_drop_more (feed_at 0) bs 28 0 (omega arith) in
-    record {
-      is = c.ended.ensures ∙ sym last ∙ ap (λ i. feed_at (28 - i) (drop i bs)) (sym end) ∙ c.loop-at.invariant;
-      long = λ y. omega arith;
-    }
+    let first = position_from_yields_List (λ b. eqb b 10) _ _ c.position.result c.position.ensures.ran (YieldsList-from_take 29 (YieldsList-from_slice bs cc) cc) (λ x b q k. search (rules, tests)) ∙ position_from-zero _ (take 29 bs) in
+    grind (arith, feed_found 0 28 28 bs)

@@ -1,30 +1,18 @@
-use Rattle.std.proofs.Common.{◌≡◌, ◌+◌, ◌<◌, [], ◌∷◌, ◌++◌, map, length, take, drop, sym, ap, ◌∙◌, arith}
-use mathlib.Core.List.{map-append}
-use Rattle.std.proofs.lemmas.List.{take_all, take_more, take_more_set, take-append-drop, drop-drop, drop-set-lt}
+use Rattle.std.proofs.Common.{◌≡◌, ◌+◌, [], ◌∷◌, ◌++◌, map, length, take, drop, set, sym, ap, ◌∙◌, append_assoc, arith}
+use Rattle.std.proofs.lemmas.List.{drop_more, set_at, map_more, length-map, length-take-le}
 use Rattle.readers.specs.Reading.{fresh}
 use Rattle.readers.proofs.filling.fill_records.Goals as goal
 
-pub loop-i-preserved : goal.loop-i-preserved
-loop-i-preserved c =
-    let i = c.loop-i.i in
-    let rs = c.loop-i.records in
+pub loop-at-preserved : goal.loop-at-preserved
+loop-at-preserved c =
+    let i = c.loop-at.at in
     let os = c.args.orders.now in
+    let rs = c.args.records.now in
     let x = c.fresh.result in
-    let within : i < length rs = omega arith in (
-      take_more_set rs i x within
-          ∙ ap (λ xs. xs ++ x ∷ []) c.loop-i.invariant.0
-          ∙ ap (λ y. map fresh (take i os) ++ y ∷ []) c.fresh.ensures
-          ∙ sym (map-append fresh (take i os) (_ ∷ []))
-          ∙ ap (map fresh) (sym (take_more os i _ c.loop-i-test.true)),
-      drop-set-lt (i + 1) rs i x (omega arith) ∙ sym (drop-drop 1 i rs) ∙ ap (drop 1) c.loop-i.invariant.1 ∙ drop-drop 1 i c.args.records.now,
-    )
-
-pub returns : goal.returns
-returns c =
-    let i = c.loop-i.i in
-    let rs = c.loop-i.records in
-    let os = c.args.orders.now in
-    let all : i ≡ length os = omega arith in
-    sym (take-append-drop i rs)
-    ∙ ap (λ xs. xs ++ drop i rs) (c.loop-i.invariant.0 ∙ ap (map fresh) (take_all i os (omega arith)))
-    ∙ ap (λ xs. map fresh os ++ xs) (c.loop-i.invariant.1 ∙ ap (λ n. drop n c.args.records.now) all)
+    let done = map fresh (take i os) in
+    let left = drop (i + 1) rs in
+    let size : length done ≡ i = length-map (take i os) fresh ∙ length-take-le i os (omega arith) in
+    ap (λ rs. set rs i x) (c.loop-at.invariant ∙ ap (λ r. done ++ r) (drop_more rs i x (omega arith)))
+    ∙ set_at done _ left x i size
+    ∙ sym (append_assoc done (x ∷ []) left)
+    ∙ ap (λ xs. xs ++ left) (ap (λ y. done ++ y ∷ []) c.fresh.ensures ∙ sym (map_more fresh os i _ (omega arith)))

@@ -1,54 +1,59 @@
-use Rattle.std.proofs.Common.{◌≤◌, [], ◌∷◌, length, ap, ◌∙◌, arith}
-use Rattle.morphology.specs.Pictures.{area}
+use Rattle.std.proofs.Common.{Some, ap, ◌∙◌, arith, rules}
+use borrow.Author.Tests.{tests}
+use Rattle.std.proofs.lemmas.Iterator.{YieldsList-from_slice, YieldsList-from_map}
+use Rattle.std.proofs.lemmas.Iterator.Consumers.{YieldsList-at, YieldsList-from_chain, YieldsList-from_enumerate, YieldsList-from_filter_map}
+use Rattle.std.proofs.lemmas.Iterator.Adapters.{YieldsList-from_once}
 use Rattle.grids.specs.Extents.{extent_of}
-use Rattle.grids.specs.WideRows.{row_counts, widest_of}
-use Rattle.jobs.specs.Entries.{listed, cell_entry, last_line}
-use Rattle.writers.proofs.Placing.{Put, put_as, put_both}
-use Rattle.reports.specs.Reports.{done_entry, area_line, wide_line}
-use Rattle.reports.proofs.RunLines.{grouped, listed_count, filled}
+use Rattle.jobs.specs.Entries.{cell_entry}
+use Rattle.writers.proofs.Placing.{gives}
+use Rattle.reports.specs.Reports.{done_line, area_line, wide_line, run_lines}
+use Rattle.reports.proofs.RunLines.{run_given, filled}
 use Rattle.reports.proofs.telling.put_run.Goals as goal
 
-pub put_all-cells-requires : goal.put_all-cells-requires
-put_all-cells-requires g c =
-    let all = listed_count g.K.Kind.values g.K.WrittenKind.written (extent_of c.args.shape) c.args.records.now c.args.picture.now in
-    omega (arith, c.requires.room, all)
-
-pub put_all-total-requires : goal.put_all-total-requires
-put_all-total-requires g c =
-    let all = listed_count g.K.Kind.values g.K.WrittenKind.written (extent_of c.args.shape) c.args.records.now c.args.picture.now in
-    omega (arith, c.requires.room, all, c.put_all-cells.ensures.end)
-
-pub put_line-row-requires : goal.put_line-row-requires
-put_line-row-requires g c =
-    let all = listed_count g.K.Kind.values g.K.WrittenKind.written (extent_of c.args.shape) c.args.records.now c.args.picture.now in
-    omega (arith, c.requires.room, all, c.put_all-cells.ensures.end, c.put_all-total.ensures.end)
-
-pub put_line-last-requires : goal.put_line-last-requires
-put_line-last-requires g c =
-    let all = listed_count g.K.Kind.values g.K.WrittenKind.written (extent_of c.args.shape) c.args.records.now c.args.picture.now in
-    omega (arith, c.requires.room, all, c.put_all-cells.ensures.end, c.put_all-total.ensures.end, c.put_line-row.ensures.end)
-
-pub put_line-requires : goal.put_line-requires
-put_line-requires g c =
-    let all = listed_count g.K.Kind.values g.K.WrittenKind.written (extent_of c.args.shape) c.args.records.now c.args.picture.now in
-    omega (arith, c.requires.room, all, c.put_all-cells.ensures.end, c.put_all-total.ensures.end, c.put_line-row.ensures.end, c.put_line-last.ensures.end)
+pub put_lines-requires-clause-told : goal.put_lines-requires-clause-told
+put_lines-requires-clause-told g c =
+    let k = g.K.Kind.values in
+    let w = g.K.WrittenKind.written in
+    let all = run_given k w (extent_of c.args.shape) c.args.records.now c.args.picture.now c.area_line.result c.wide_line.result c.last_line.result
+    (c.area_line.ensures ∙ ap area_line c.area.ensures) (c.wide_line.ensures ∙ ap wide_line c.widest.ensures) c.last_line.ensures in (
+      run_lines k w (extent_of c.args.shape) c.args.records.now c.args.picture.now,
+      gives
+          (YieldsList-from_chain
+          (YieldsList-at c.chain-lines.ensures.first (YieldsList-from_chain
+          (YieldsList-at c.chain-3.ensures.first (YieldsList-from_chain
+          (YieldsList-at c.chain-2.ensures.first (YieldsList-from_chain
+          (YieldsList-at c.chain.ensures.first (YieldsList-from_map _ done_line (YieldsList-from_slice c.args.records.now (cc)) c.map-done.ensures.closure (λ x r q k. search (rules, tests))))
+          (YieldsList-at c.chain.ensures.second (YieldsList-from_filter_map _ (λ p. cell_entry k w p.0 p.1) (YieldsList-from_enumerate (YieldsList-from_slice c.args.picture.now (cc)) (cc)) c.filter_map-cells.ensures.closure (λ x r q k. search (rules, tests))))
+          c.chain.ensures.first_done c.chain.ensures.second_done))
+          (YieldsList-at c.chain-2.ensures.second (YieldsList-from_once (Some c.area_line.result) c.once.ensures.item))
+          c.chain-2.ensures.first_done c.chain-2.ensures.second_done))
+          (YieldsList-at c.chain-3.ensures.second (YieldsList-from_once (Some c.wide_line.result) c.once-2.ensures.item))
+          c.chain-3.ensures.first_done c.chain-3.ensures.second_done))
+          (YieldsList-at c.chain-lines.ensures.second (YieldsList-from_once (Some c.last_line.result) c.once-3.ensures.item))
+          c.chain-lines.ensures.first_done c.chain-lines.ensures.second_done)
+          all,
+      omega (arith, c.requires.room),
+    )
 
 pub returns : goal.returns
 returns g c =
     let k = g.K.Kind.values in
     let w = g.K.WrittenKind.written in
-    let b = c.args.picture.now in
-    let done : Put c.args.out.now 0 (listed done_entry 0 c.args.records.now) c.put_all-cells.new.out c.put_all-cells.result =
-    record { end_is = c.put_all-cells.ensures.end; bytes_are = c.put_all-cells.ensures.bytes } in
-    let cells : Put c.put_all-cells.new.out c.put_all-cells.result (listed (cell_entry k w) 0 b) c.put_all-total.new.out c.put_all-total.result =
-    record { end_is = c.put_all-total.ensures.end; bytes_are = c.put_all-total.ensures.bytes } in
-    let total : Put c.put_all-total.new.out c.put_all-total.result (area_line (area k b) ∷ []) c.put_line-row.new.out c.put_line-row.result =
-    put_as (record { end_is = c.put_line-row.ensures.end; bytes_are = c.put_line-row.ensures.bytes }) (ap (λ x. x ∷ []) (c.area_line.ensures ∙ ap area_line c.area.ensures)) in
-    let row : Put c.put_line-row.new.out c.put_line-row.result (wide_line (widest_of (row_counts k (extent_of c.args.shape) b)) ∷ []) c.put_line-last.new.out c.put_line-last.result =
-    put_as (record { end_is = c.put_line-last.ensures.end; bytes_are = c.put_line-last.ensures.bytes }) (ap (λ x. x ∷ []) (c.wide_line.ensures ∙ ap wide_line c.widest.ensures)) in
-    let last : Put c.put_line-last.new.out c.put_line-last.result (last_line ∷ []) c.put_line.new.out c.put_line.result =
-    put_as (record { end_is = c.put_line.ensures.end; bytes_are = c.put_line.ensures.bytes }) (ap (λ x. x ∷ []) c.last_line.ensures) in
-    let start : 0 ≤ length c.args.out.now = omega arith in
-    let parts = put_both start (put_both start (put_both start (put_both start done cells) total) row) last in
-    let all = put_as parts (grouped (area_line (area k b)) (wide_line (widest_of (row_counts k (extent_of c.args.shape) b))) last_line (listed done_entry 0 c.args.records.now) (listed (cell_entry k w) 0 b)) in
-    filled c.args.out.now c.put_line.new.out _ c.requires.room all.bytes_are
+    let all = run_given k w (extent_of c.args.shape) c.args.records.now c.args.picture.now c.area_line.result c.wide_line.result c.last_line.result
+    (c.area_line.ensures ∙ ap area_line c.area.ensures) (c.wide_line.ensures ∙ ap wide_line c.widest.ensures) c.last_line.ensures in
+    let put = c.put_lines.ensures _ (gives
+    (YieldsList-from_chain
+    (YieldsList-at c.chain-lines.ensures.first (YieldsList-from_chain
+    (YieldsList-at c.chain-3.ensures.first (YieldsList-from_chain
+    (YieldsList-at c.chain-2.ensures.first (YieldsList-from_chain
+    (YieldsList-at c.chain.ensures.first (YieldsList-from_map _ done_line (YieldsList-from_slice c.args.records.now (cc)) c.map-done.ensures.closure (λ x r q k. search (rules, tests))))
+    (YieldsList-at c.chain.ensures.second (YieldsList-from_filter_map _ (λ p. cell_entry k w p.0 p.1) (YieldsList-from_enumerate (YieldsList-from_slice c.args.picture.now (cc)) (cc)) c.filter_map-cells.ensures.closure (λ x r q k. search (rules, tests))))
+    c.chain.ensures.first_done c.chain.ensures.second_done))
+    (YieldsList-at c.chain-2.ensures.second (YieldsList-from_once (Some c.area_line.result) c.once.ensures.item))
+    c.chain-2.ensures.first_done c.chain-2.ensures.second_done))
+    (YieldsList-at c.chain-3.ensures.second (YieldsList-from_once (Some c.wide_line.result) c.once-2.ensures.item))
+    c.chain-3.ensures.first_done c.chain-3.ensures.second_done))
+    (YieldsList-at c.chain-lines.ensures.second (YieldsList-from_once (Some c.last_line.result) c.once-3.ensures.item))
+    c.chain-lines.ensures.first_done c.chain-lines.ensures.second_done)
+    all) in
+    filled c.args.out.now c.put_lines.new.out _ c.requires.room put.1

@@ -5,12 +5,6 @@ use Rattle.grids.specs.Extents.{extent_of}
 use Rattle.reports.proofs.RunLines.{run_count}
 use Rattle.reports.proofs.working.line_count.Goals as goal
 
-pub overflow_add-result : goal.overflow_add-result
-overflow_add-result g c = omega (arith, c.requires.few, c.requires.small, c.area.ensures, count_by-le-length (not_least g.K.Kind.values) c.args.picture.now)
-
-pub overflow_add-result-2 : goal.overflow_add-result-2
-overflow_add-result-2 g c = omega (arith, c.requires.few, c.requires.small, c.area.ensures, count_by-le-length (not_least g.K.Kind.values) c.args.picture.now)
-
 pub returns : goal.returns
 returns g c =
     let cells = count_by-le-length (not_least g.K.Kind.values) c.args.picture.now in

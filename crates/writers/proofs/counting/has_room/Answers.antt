@@ -1,6 +1,5 @@
-use Rattle.std.proofs.Common.{◌≡◌, ◌+◌, ◌*◌, List, [], length, sym, arith}
+use Rattle.std.proofs.Common.{◌≡◌, ◌+◌, List, [], length, arith}
 use Rattle.std.proofs.lemmas.List.{length-map}
-use Rattle.std.proofs.lemmas.Bool.{lt-leb}
 use Rattle.std.proofs.lemmas.Bool.Decides.{nat_tests}
 use Rattle.kinds.specs.Lattices.{Values}
 use Rattle.kinds.specs.Numbers.{Written}
@@ -20,14 +19,15 @@ returns-then-records-room g c =
     let k = g.K.Kind.values in
     let w = g.K.WrittenKind.written in
     let d = design_of c.args.plan.now in
-    let all = with-moves k w d c.args.picture.now c.args.records.now in
-    sym (lt-leb (29 * length (job_lines k w (job_of d c.args.picture.now c.args.records.now))) c.args.size (omega (arith, all)))
+    let rs = c.args.records.now in
+    let all : length (job_lines k w (job_of d c.args.picture.now rs)) ≡ c.lines_before_moves.result + length rs = omega (arith, with-moves k w d c.args.picture.now rs, c.lines_before_moves.ensures.count) in
+    grind (arith, nat_tests)
 
-pub returns : goal.returns
-returns g c =
+pub returns-else-records-room : goal.returns-else-records-room
+returns-else-records-room g c =
     let k = g.K.Kind.values in
     let w = g.K.WrittenKind.written in
     let d = design_of c.args.plan.now in
-    let rs = c.args.records.now in
-    let all : length (job_lines k w (job_of d c.args.picture.now rs)) ≡ c.lines_before_moves.result + length rs = omega (arith, with-moves k w d c.args.picture.now rs, c.lines_before_moves.ensures.count) in
+    let all = with-moves k w d c.args.picture.now c.args.records.now in
+    let few = job_count k w (job_of d c.args.picture.now []) in
     grind (arith, nat_tests)

@@ -7,11 +7,6 @@ use Rattle.writers.proofs.LineCounts.{job_count}
 use Rattle.writers.proofs.PlanLimits.{few_dead, few_cells}
 use Rattle.writers.proofs.counting.lines_before_moves.Goals as goal
 
-pub overflow_add-result-3 : goal.overflow_add-result-3
-overflow_add-result-3 g c =
-    let p = c.args.plan.now in
-    omega (arith, c.requires, c.elements_lines.ensures.few, ap length c.dead_cells.ensures, few_dead p, c.area.ensures, count_by-le-length (not_least g.K.Kind.values) c.args.picture.now, few_cells p)
-
 pub returns : goal.returns
 returns g c =
     let p = c.args.plan.now in

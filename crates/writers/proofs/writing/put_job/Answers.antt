@@ -1,81 +1,127 @@
-use Rattle.std.proofs.Common.{◌≡◌, ℕ, suc, ◌+◌, ◌≤◌, List, [], ◌∷◌, ◌++◌, map, length, refl, ap, ◌∙◌, append_assoc, arith}
-use Rattle.kinds.specs.Lattices.{Values}
-use Rattle.kinds.specs.Numbers.{Written}
-use Rattle.morphology.specs.declared.words.Record.{Record}
-use Rattle.lines.specs.declared.line.Line.{Line}
-use Rattle.plans.specs.Plans.{Design, design_of}
-use Rattle.jobs.specs.Entries.{plat_line, last_line, listed, elements_lines, dead_entry, cell_entry, move_entry, move_line}
+use Rattle.std.proofs.Common.{◌≡◌, get_or, Some, refl, ap, ◌∙◌, arith, rules, of_calls}
+use borrow.Author.Tests.{tests}
+use Rattle.std.proofs.lemmas.Iterator.{YieldsList-from_slice, YieldsList-from_map, YieldsList-from_range}
+use Rattle.std.proofs.lemmas.Iterator.Consumers.{YieldsList-at, YieldsList-from_chain, YieldsList-from_enumerate, YieldsList-from_filter_map}
+use Rattle.std.proofs.lemmas.Iterator.Adapters.{YieldsList-from_once, YieldsList-from_flat_map}
+use Rattle.plans.specs.Drawings.{blank}
+use Rattle.plans.specs.Plans.{design_of}
 use Rattle.jobs.specs.Jobs.{job_lines}
-use Rattle.writers.specs.Writing.{asked, record_entry, job_of}
-use Rattle.writers.proofs.LineCounts.{parts_count}
-use Rattle.writers.proofs.Placing.{Put, put_as, put_both}
+use Rattle.jobs.specs.Entries.{plat_line, first_side, elem_line, vect_line, dead_line, cell_entry, move_line}
+use Rattle.writers.specs.Writing.{asked, job_of}
+use Rattle.writers.proofs.Leftovers.{each_made, few_left}
+use Rattle.writers.proofs.Listing.{element_given, job_given}
+use Rattle.writers.proofs.Placing.{gives}
+use Rattle.writers.proofs.PlanLimits.{few_places}
 use Rattle.writers.proofs.writing.put_job.Goals as goal
 
--- the lines of records are those of what they ask for
-moves-listed : (i : ℕ) (rs : List Record) → listed record_entry i rs ≡ listed move_entry i (map asked rs)
-moves-listed i [] = refl
-moves-listed i (r ∷ rs) = ap (λ ls. move_line (asked r) ∷ ls) (moves-listed (suc i) rs)
+-- each part of the chain may be asked for its lines; an element has few of them, since its lists are the plan's
+pub put_lines-requires-clause-can : goal.put_lines-requires-clause-can
+put_lines-requires-clause-can g c =
+    let d = (design_of c.args.plan.now).drawing in (
+      λ _. (
+        λ _. (
+          λ _. (
+            λ _. (
+              λ _. tt,
+              λ _. (
+                (
+                  λ _. (
+                    search of_calls,
+                    each_made _ (λ s. s.f.0.now ≡ c.args.plan.now) _ (λ t u v step plan.
+                        let called = step.2 in (
+                          search rules,
+                          λ j is. rw is (few_left (λ _. (λ _. tt, λ _. search of_calls), λ _. search of_calls) u.a_done u.a.a_done u.a.b_done u.b_done u.a.a.item u.a.b.iter.rest.now u.b.iter.rest.now (get_or d.elements step.0 blank)
+                              (search rules) (search rules) (few_places c.args.plan.now step.0)),
+                        )) (search rules),
+                  ),
+                  tt,
+                  λ j is. absurd cc,
+                ),
+                λ j is. absurd cc,
+              ),
+            ),
+            λ _. search of_calls,
+          ),
+          λ _. search (rules, of_calls),
+        ),
+        λ _. search of_calls,
+      ),
+      λ _. tt,
+    )
 
-in_order : (e d c m : List Line) → ((e ++ d) ++ c) ++ m ≡ e ++ (d ++ (c ++ m))
-in_order e d c m = simp append_assoc
+-- the chain gives the lines of the job: each part those that its lists have, whatever is read of them
+pub put_lines-requires-clause-told : goal.put_lines-requires-clause-told
+put_lines-requires-clause-told g c =
+    let k = g.K.Kind.values in
+    let w = g.K.WrittenKind.written in
+    let d = (design_of c.args.plan.now).drawing in
+    let n = c.elements.result in
+    let all = job_given k w (design_of c.args.plan.now) c.args.picture.now c.args.records.now c.first_side-side.result n c.plat_line.result c.last_line.result
+    (c.first_side-side.ensures ∙ ap first_side c.mode.ensures) c.elements.ensures (c.plat_line.ensures ∙ ap (λ x. plat_line x d) c.code.ensures) c.last_line.ensures in (
+      job_lines k w (job_of (design_of c.args.plan.now) c.args.picture.now c.args.records.now),
+      gives
+          (YieldsList-from_chain
+          (YieldsList-at c.chain-lines.ensures.first (YieldsList-from_chain
+          (YieldsList-at c.chain-4.ensures.first (YieldsList-from_chain
+          (YieldsList-at c.chain-3.ensures.first (YieldsList-from_chain
+          (YieldsList-at c.chain-2.ensures.first (YieldsList-from_chain
+          (YieldsList-at c.chain.ensures.first (YieldsList-from_once (Some c.plat_line.result) c.once.ensures.item))
+          (YieldsList-at c.chain.ensures.second (YieldsList-from_flat_map _ _ _ (λ l. l) (element_given c.first_side-side.result d.elements) _
+          (λ x u q called. (
+            search rules,
+            λ j is. YieldsList-at is (YieldsList-from_chain
+                (YieldsList-from_chain (YieldsList-from_once (Some (elem_line x)) (search rules))
+                (YieldsList-from_map _ (vect_line c.first_side-side.result) (YieldsList-from_slice (get_or d.elements x blank).first (search rules)) refl (λ v r f k. search (rules, tests))) (search rules) (search rules))
+                (YieldsList-from_map _ (vect_line 2) (YieldsList-from_slice (get_or d.elements x blank).second (search rules)) (search rules) (λ v r f k. search (rules, tests))) (search rules) (search rules)),
+          ))
+          (YieldsList-at c.flat_map-elements.ensures.source (YieldsList-from_range 0 n n (cc) (omega arith))) c.flat_map-elements.ensures.closure c.flat_map-elements.ensures.front c.flat_map-elements.ensures.back c.flat_map-elements.ensures.done))
+          c.chain.ensures.first_done c.chain.ensures.second_done))
+          (YieldsList-at c.chain-2.ensures.second (YieldsList-from_map _ dead_line (YieldsList-from_slice (design_of c.args.plan.now).dead (cc)) c.map-dead.ensures.closure (λ x r q k. search (rules, tests))))
+          c.chain-2.ensures.first_done c.chain-2.ensures.second_done))
+          (YieldsList-at c.chain-3.ensures.second (YieldsList-from_filter_map _ (λ p. cell_entry k w p.0 p.1) (YieldsList-from_enumerate (YieldsList-from_slice c.args.picture.now (cc)) (cc)) c.filter_map-cells.ensures.closure (λ x r q k. search (rules, tests))))
+          c.chain-3.ensures.first_done c.chain-3.ensures.second_done))
+          (YieldsList-at c.chain-4.ensures.second (YieldsList-from_map _ (λ r. move_line (asked r)) (YieldsList-from_slice c.args.records.now (cc)) c.map-moves.ensures.closure (λ x r q k. search (rules, tests))))
+          c.chain-4.ensures.first_done c.chain-4.ensures.second_done))
+          (YieldsList-at c.chain-lines.ensures.second (YieldsList-from_once (Some c.last_line.result) c.once-2.ensures.item))
+          c.chain-lines.ensures.first_done c.chain-lines.ensures.second_done)
+          all,
+      c.requires,
+    )
 
--- the parts one behind the other are the whole
-grouped : (p l : Line) (e d c m : List Line) → (((((p ∷ []) ++ e) ++ d) ++ c) ++ m) ++ (l ∷ []) ≡ (p ∷ (e ++ (d ++ (c ++ m)))) ++ (l ∷ [])
-grouped p l e d c m = ap (λ x. (p ∷ x) ++ (l ∷ [])) (in_order e d c m)
-
--- the lines of the whole, part by part
-whole : {V : Type 0} (k : Values V) (w : Written V) (d : Design) (a : List V) (rs : List Record)
-    → length (job_lines k w (job_of d a rs)) ≡ 2 + length (elements_lines d.drawing.mode 0 d.drawing.elements) + length (listed dead_entry 0 d.dead) + length (listed (cell_entry k w) 0 a) + length (listed record_entry 0 rs)
-whole k w d a rs =
-    omega (arith, parts_count (plat_line w.code d.drawing) last_line (elements_lines d.drawing.mode 0 d.drawing.elements) (listed dead_entry 0 d.dead) (listed (cell_entry k w) 0 a) (listed move_entry 0 (map asked rs)), ap length (moves-listed 0 rs))
-
-pub put_elements-dead-requires : goal.put_elements-dead-requires
-put_elements-dead-requires g c =
-    let all = whole g.K.Kind.values g.K.WrittenKind.written (design_of c.args.plan.now) c.args.picture.now c.args.records.now in
-    omega (arith, c.requires, all, c.put_line-elements.ensures.end)
-
-pub put_all-cells-requires : goal.put_all-cells-requires
-put_all-cells-requires g c =
-    let all = whole g.K.Kind.values g.K.WrittenKind.written (design_of c.args.plan.now) c.args.picture.now c.args.records.now in
-    let dead = ap (λ xs. length (listed dead_entry 0 xs)) c.dead_cells.ensures in
-    omega (arith, c.requires, all, dead, c.put_line-elements.ensures.end, c.put_elements-dead.ensures.end)
-
-pub put_all-moves-requires : goal.put_all-moves-requires
-put_all-moves-requires g c =
-    let all = whole g.K.Kind.values g.K.WrittenKind.written (design_of c.args.plan.now) c.args.picture.now c.args.records.now in
-    let dead = ap (λ xs. length (listed dead_entry 0 xs)) c.dead_cells.ensures in
-    omega (arith, c.requires, all, dead, c.put_line-elements.ensures.end, c.put_elements-dead.ensures.end, c.put_all-cells.ensures.end)
-
-pub put_all-last-requires : goal.put_all-last-requires
-put_all-last-requires g c =
-    let all = whole g.K.Kind.values g.K.WrittenKind.written (design_of c.args.plan.now) c.args.picture.now c.args.records.now in
-    let dead = ap (λ xs. length (listed dead_entry 0 xs)) c.dead_cells.ensures in
-    omega (arith, c.requires, all, dead, c.put_line-elements.ensures.end, c.put_elements-dead.ensures.end, c.put_all-cells.ensures.end, c.put_all-moves.ensures.end)
-
-pub put_line-requires : goal.put_line-requires
-put_line-requires g c =
-    let all = whole g.K.Kind.values g.K.WrittenKind.written (design_of c.args.plan.now) c.args.picture.now c.args.records.now in
-    let dead = ap (λ xs. length (listed dead_entry 0 xs)) c.dead_cells.ensures in
-    omega (arith, c.requires, all, dead, c.put_line-elements.ensures.end, c.put_elements-dead.ensures.end, c.put_all-cells.ensures.end, c.put_all-moves.ensures.end, c.put_all-last.ensures.end)
-
+-- by the same chain, as no definition can name what it gives
 pub returns : goal.returns
 returns g c =
     let k = g.K.Kind.values in
     let w = g.K.WrittenKind.written in
-    let d = design_of c.args.plan.now in
-    let first : Put c.args.out.now 0 (plat_line w.code d.drawing ∷ []) c.put_line-elements.new.out c.put_line-elements.result =
-    put_as (record { end_is = c.put_line-elements.ensures.end; bytes_are = c.put_line-elements.ensures.bytes }) (ap (λ x. x ∷ []) (c.plat_line.ensures ∙ ap (λ n. plat_line n d.drawing) c.code.ensures)) in
-    let elements : Put c.put_line-elements.new.out c.put_line-elements.result (elements_lines d.drawing.mode 0 d.drawing.elements) c.put_elements-dead.new.out c.put_elements-dead.result =
-    record { end_is = c.put_elements-dead.ensures.end; bytes_are = c.put_elements-dead.ensures.bytes } in
-    let dead : Put c.put_elements-dead.new.out c.put_elements-dead.result (listed dead_entry 0 d.dead) c.put_all-cells.new.out c.put_all-cells.result =
-    put_as (record { end_is = c.put_all-cells.ensures.end; bytes_are = c.put_all-cells.ensures.bytes }) (ap (listed dead_entry 0) c.dead_cells.ensures) in
-    let cells : Put c.put_all-cells.new.out c.put_all-cells.result (listed (cell_entry k w) 0 c.args.picture.now) c.put_all-moves.new.out c.put_all-moves.result =
-    record { end_is = c.put_all-moves.ensures.end; bytes_are = c.put_all-moves.ensures.bytes } in
-    let moves : Put c.put_all-moves.new.out c.put_all-moves.result (listed move_entry 0 (map asked c.args.records.now)) c.put_all-last.new.out c.put_all-last.result =
-    put_as (record { end_is = c.put_all-last.ensures.end; bytes_are = c.put_all-last.ensures.bytes }) (moves-listed 0 c.args.records.now) in
-    let last : Put c.put_all-last.new.out c.put_all-last.result (last_line ∷ []) c.put_line.new.out c.put_line.result =
-    put_as (record { end_is = c.put_line.ensures.end; bytes_are = c.put_line.ensures.bytes }) (ap (λ x. x ∷ []) c.last_line.ensures) in
-    let start : 0 ≤ length c.args.out.now = omega arith in
-    let parts = put_both start (put_both start (put_both start (put_both start (put_both start first elements) dead) cells) moves) last in
-    let all = put_as parts (grouped (plat_line w.code d.drawing) last_line (elements_lines d.drawing.mode 0 d.drawing.elements) (listed dead_entry 0 d.dead) (listed (cell_entry k w) 0 c.args.picture.now) (listed move_entry 0 (map asked c.args.records.now))) in
-    record { end = all.end_is; bytes = all.bytes_are }
+    let d = (design_of c.args.plan.now).drawing in
+    let n = c.elements.result in
+    let all = job_given k w (design_of c.args.plan.now) c.args.picture.now c.args.records.now c.first_side-side.result n c.plat_line.result c.last_line.result
+    (c.first_side-side.ensures ∙ ap first_side c.mode.ensures) c.elements.ensures (c.plat_line.ensures ∙ ap (λ x. plat_line x d) c.code.ensures) c.last_line.ensures in
+    let put = c.put_lines.ensures _
+    (gives
+    (YieldsList-from_chain
+    (YieldsList-at c.chain-lines.ensures.first (YieldsList-from_chain
+    (YieldsList-at c.chain-4.ensures.first (YieldsList-from_chain
+    (YieldsList-at c.chain-3.ensures.first (YieldsList-from_chain
+    (YieldsList-at c.chain-2.ensures.first (YieldsList-from_chain
+    (YieldsList-at c.chain.ensures.first (YieldsList-from_once (Some c.plat_line.result) c.once.ensures.item))
+    (YieldsList-at c.chain.ensures.second (YieldsList-from_flat_map _ _ _ (λ l. l) (element_given c.first_side-side.result d.elements) _
+    (λ x u q called. (
+      search rules,
+      λ j is. YieldsList-at is (YieldsList-from_chain
+          (YieldsList-from_chain (YieldsList-from_once (Some (elem_line x)) (search rules))
+          (YieldsList-from_map _ (vect_line c.first_side-side.result) (YieldsList-from_slice (get_or d.elements x blank).first (search rules)) refl (λ v r f k. search (rules, tests))) (search rules) (search rules))
+          (YieldsList-from_map _ (vect_line 2) (YieldsList-from_slice (get_or d.elements x blank).second (search rules)) (search rules) (λ v r f k. search (rules, tests))) (search rules) (search rules)),
+    ))
+    (YieldsList-at c.flat_map-elements.ensures.source (YieldsList-from_range 0 n n (cc) (omega arith))) c.flat_map-elements.ensures.closure c.flat_map-elements.ensures.front c.flat_map-elements.ensures.back c.flat_map-elements.ensures.done))
+    c.chain.ensures.first_done c.chain.ensures.second_done))
+    (YieldsList-at c.chain-2.ensures.second (YieldsList-from_map _ dead_line (YieldsList-from_slice (design_of c.args.plan.now).dead (cc)) c.map-dead.ensures.closure (λ x r q k. search (rules, tests))))
+    c.chain-2.ensures.first_done c.chain-2.ensures.second_done))
+    (YieldsList-at c.chain-3.ensures.second (YieldsList-from_filter_map _ (λ p. cell_entry k w p.0 p.1) (YieldsList-from_enumerate (YieldsList-from_slice c.args.picture.now (cc)) (cc)) c.filter_map-cells.ensures.closure (λ x r q k. search (rules, tests))))
+    c.chain-3.ensures.first_done c.chain-3.ensures.second_done))
+    (YieldsList-at c.chain-4.ensures.second (YieldsList-from_map _ (λ r. move_line (asked r)) (YieldsList-from_slice c.args.records.now (cc)) c.map-moves.ensures.closure (λ x r q k. search (rules, tests))))
+    c.chain-4.ensures.first_done c.chain-4.ensures.second_done))
+    (YieldsList-at c.chain-lines.ensures.second (YieldsList-from_once (Some c.last_line.result) c.once-2.ensures.item))
+    c.chain-lines.ensures.first_done c.chain-lines.ensures.second_done)
+    all) in
+    record { end = put.0; bytes = put.1 }

@@ -1,6 +1,5 @@
 use Rattle.std.proofs.Common.{◌≡◌, ℕ, ◌*◌, true, leb, List, ◌++◌, map, length, drop, Ok, sym, ap, ◌∙◌, arith, rules}
 use Rattle.std.specs.List.{flat_map}
-use Rattle.std.proofs.lemmas.List.Edits.{paste_all}
 use Rattle.std.proofs.lemmas.Bool.{cond-true, eq-eqb}
 use Rattle.kinds.specs.Lattices.{Values}
 use Rattle.kinds.specs.Numbers.{Written}
@@ -12,26 +11,22 @@ use Rattle.plans.proofs.LawfulPlans.{lawful_plan}
 use Rattle.jobs.specs.Files.{JobAndFile}
 use Rattle.jobs.specs.Jobs.{Job, LawfulJob, all_fair, job_lines, encode}
 use Rattle.jobs.proofs.JobAndFile.{job_and_file}
-use Rattle.writers.specs.Writing.{asked, job_of, place_after, with_lines, write_answer}
-use Rattle.writers.proofs.Placing.{length_lines}
+use Rattle.writers.specs.Writing.{asked, job_of, with_lines, write_answer}
 use Rattle.writers.proofs.writing.write.Given as given
 use Rattle.writers.proofs.writing.write.Goals as goal
 
 lawful-job : {V : Type 0} (d : Design) (a : List V) (rs : List Record) → LawfulDesign d → length a ≡ cells_in d → true ≡ all_fair (map asked rs) → LawfulJob (job_of d a rs)
 lawful-job d a rs design size fair = record { design = design; picture = size; orders = sym fair }
 
-module _ {V : Type 0} (k : Values V) (w : Written V) (j : Job V) (out : List ℕ) (n : ℕ) where
+module _ {V : Type 0} (k : Values V) (w : Written V) (j : Job V) (out : List ℕ) (n : ℕ) (all : n ≡ 29 * length (job_lines k w j)) where
   -- a lawful job that the output has room for is not refused
-  accepted : LawfulJob j → true ≡ leb (29 * length (job_lines k w j)) (length out) → n ≡ place_after 0 (job_lines k w j) → Ok n ≡ write_answer k w j (length out)
-  accepted lawful room end =
-      let all : n ≡ 29 * length (job_lines k w j) = omega arith in
-      ap Ok all ∙ sym (cond-true _ _ _ (eq-eqb _ _ lawful.picture) ∙ cond-true _ _ _ lawful.orders ∙ cond-true _ _ _ (sym room))
+  accepted : LawfulJob j → true ≡ leb (29 * length (job_lines k w j)) (length out) → Ok n ≡ write_answer k w j (length out)
+  accepted lawful room = ap Ok all ∙ sym (cond-true _ _ _ (eq-eqb _ _ lawful.picture) ∙ cond-true _ _ _ lawful.orders ∙ cond-true _ _ _ (sym room))
 
   -- the lines from the first byte on are the bytes of the job
-  filled : (e : List ℕ) → n ≡ place_after 0 (job_lines k w j) → e ≡ with_lines out 0 (job_lines k w j) → e ≡ encode k w j ++ drop n out
+  filled : (e : List ℕ) → e ≡ with_lines out (job_lines k w j) → e ≡ encode k w j ++ drop n out
   unfolding encode
-  filled e end is =
-      is ∙ paste_all out 0 (flat_map line_bytes (job_lines k w j)) (29 * length (job_lines k w j)) (sym (length_lines (job_lines k w j))) ∙ ap (λ m. flat_map line_bytes (job_lines k w j) ++ drop m out) (sym end)
+  filled e is = is ∙ ap (λ m. flat_map line_bytes (job_lines k w j) ++ drop m out) (sym all)
 
 -- a job and its file fix each other, whatever is answered
 abbrev fixed-for : (g : given.Over) → JobAndFile g.K.Kind.values g.K.WrittenKind.written
@@ -56,8 +51,8 @@ returns g c =
     let fixed = fixed-for g in
     let lawful = lawful-job d c.args.picture.now c.args.records.now (lawful_plan c.args.plan.now) size c.if-not-all_fair.ensures in
     record {
-      answer = accepted k w j c.args.out.now c.put_job.result lawful c.if-not-has_room.ensures c.put_job.ensures.end;
-      bytes = filled k w j c.args.out.now c.put_job.result c.put_job.new.out c.put_job.ensures.end c.put_job.ensures.bytes;
+      answer = accepted k w j c.args.out.now c.put_job.result c.put_job.ensures.end lawful c.if-not-has_room.ensures;
+      bytes = filled k w j c.args.out.now c.put_job.result c.put_job.ensures.end c.put_job.new.out c.put_job.ensures.bytes;
       back = λ room few. fixed.written_is_read j room lawful few;
       fixed = fixed;
     }

@@ -1,10 +1,8 @@
-use Rattle.std.proofs.Common.{◌≡◌, ◌<◌, sym, rules}
-use Rattle.kinds.specs.FrameSets.{frames}
-use Rattle.kinds.specs.Made.{made}
+use Rattle.std.proofs.Common.{rules}
+use Rattle.kinds.specs.FrameSets.{frames, frames_number}
+use Rattle.kinds.specs.FrameLaws.{same_frames}
+use Rattle.kinds.proofs.Finding.{found}
 use Rattle.kinds.proofs.frames.FramesWrittenKind.from_number.Goals as goal
 
-pub returns-in-Ok : goal.returns-in-Ok
-returns-in-Ok c =
-    let below : c.args.number < 65536 = search rules in
-    let same : c.args.number ≡ c.in-Ok.bits = search rules in
-    sym (made 65536 frames c.args.number _ below (λ fits. sym (c.at.ensures (frames _ fits) same)))
+pub returns : goal.returns
+returns c = found 65536 frames frames_number (λ n fits x is. same_frames x _ is) c.args.number c.try_from.result _ (search rules) (rw c.ok.ensures.value at c.map.ensures.cases)

@@ -1,10 +1,8 @@
-use Rattle.std.proofs.Common.{◌≡◌, ◌<◌, sym, rules}
-use Rattle.kinds.specs.Levels.{level}
-use Rattle.kinds.specs.Made.{made}
+use Rattle.std.proofs.Common.{rules}
+use Rattle.kinds.specs.Levels.{level, level_number}
+use Rattle.kinds.specs.LevelLaws.{same_level}
+use Rattle.kinds.proofs.Finding.{found}
 use Rattle.kinds.proofs.level.LevelWrittenKind.from_number.Goals as goal
 
-pub returns-in-Ok : goal.returns-in-Ok
-returns-in-Ok c =
-    let below : c.args.number < 256 = search rules in
-    let same : c.args.number ≡ c.in-Ok.value = search rules in
-    sym (made 256 level c.args.number _ below (λ fits. sym (c.at.ensures (level _ fits) same)))
+pub returns : goal.returns
+returns c = found 256 level level_number (λ n fits x is. same_level x _ is) c.args.number c.try_from.result _ (search rules) (rw c.ok.ensures.value at c.map.ensures.cases)

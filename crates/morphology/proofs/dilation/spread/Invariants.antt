@@ -1,7 +1,0 @@
-use Rattle.morphology.specs.Passes.{Spread}
-use Rattle.morphology.proofs.Listed.{by_places}
-use Rattle.morphology.proofs.dilation.spread.Given as goal
-
-abbrev pub invariant-loop-place : goal.invariant-loop-place
-invariant-loop-place g l =
-    Spread g.K.Kind.values (by_places (g.P.Plate.meaning l.plate) l.element l.cell l.place) l.value l.initial.work l.work
