@@ -27,7 +27,8 @@ impl Kind for Touch {
     }
 
     fn lies_under(self, other: Touch) -> bool {
-        self <= other
+        // No `<=`: the derived order costs half as much again where an area is counted.
+        matches!((self, other), (Touch::No, _) | (_, Touch::Yes))
     }
 }
 

@@ -24,6 +24,8 @@ impl<P: Plate> Plate for Dead<P> {
         self.lower.fan(element)
     }
 
+    // The hint, here and at the lines of a file: docs/DECISIONS.md.
+    #[inline(always)]
     fn target(&self, element: usize, place: usize, cell: usize) -> Option<usize> {
         let start = self.alive(cell)?;
         let end = self.lower.target(element, place, start)?;

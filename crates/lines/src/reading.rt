@@ -12,7 +12,10 @@ fn framed(bytes: &[u8]) -> bool
     ensures is { result ≡ feed_at 28 bytes.now }
     ensures long { result ≡ true → 29 ≤ length bytes.now }
 {
-    bytes.iter().take(29).position(|b| *b == b'\n') == Some(28)
+    if bytes.len() < 29 {
+        return false;
+    }
+    !bytes[..28].contains(&b'\n') && bytes[28] == b'\n'
 }
 
 // The word of the line that the bytes begin with.

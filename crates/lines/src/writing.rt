@@ -8,6 +8,7 @@ use crate::line::Line;
 
 impl Line {
     // The word, the four fields and a line feed.
+    #[inline(always)]
     pub(crate) fn bytes(self) -> [u8; 29]
         ensures { result ≡ line_bytes self }
     {
@@ -23,6 +24,7 @@ impl Line {
 }
 
 // Writes the 29 bytes of a line at a place, and leaves the rest. A number too long for its field is cut to its last six digits.
+#[inline(always)]
 pub fn write_line(line: Line, out: &mut [u8], at: usize)
     requires { at + 29 ≤ length out.old }
     ensures { out.new ≡ paste out.old at (line_bytes line) 29 }

@@ -1,7 +1,8 @@
-ghost use Rattle.std.specs.Prelude.{◌≡◌, length};
+ghost use Rattle.std.specs.Prelude.{◌≡◌, ◌<◌, length};
 ghost use Rattle.morphology.specs.Histories.{Called, move_number};
 ghost use Rattle.morphology.specs.Moves.{reached, dilated};
 ghost use Rattle.morphology.specs.Passes.{Spread};
+ghost use Rattle.morphology.specs.Pictures.{at};
 ghost use Rattle.morphology.specs.declared.words.Move.TheVariants.{Dilate};
 
 use crate::admission::admit;
@@ -25,14 +26,23 @@ impl<P: Plate, K: Kind> Pass<'_, '_, P, K> {
         }
     }
 
+    // The same of the value that the picture has for the cell.
+    fn spread_cell(&self, cell: usize, work: &mut [K])
+        requires within { cell < length self.now.picture.now }
+        requires long { length work.old ≡ (P.Plate.meaning self.now.plate.now).cells }
+        ensures { Spread K.Kind.values (reached (P.Plate.meaning self.now.plate.now) self.now.element cell) (at K.Kind.values self.now.picture.now cell) work.old work.new }
+    {
+        self.spread(cell, self.picture[cell], work);
+    }
+
     // Dilates the picture into another: each cell is spread to the cells that its steps reach.
     pub(crate) fn scatter(&self, work: &mut [K])
         requires { length work.old ≡ (P.Plate.meaning self.now.plate.now).cells }
         ensures { work.new ≡ dilated K.Kind.values (P.Plate.meaning self.now.plate.now) self.now.element self.now.picture.now }
     {
         fill(work, K::least());
-        for (cell, value) in self.picture.iter().enumerate() {
-            self.spread(cell, *value, work);
+        for cell in 0..self.picture.len() {
+            self.spread_cell(cell, work);
         }
     }
 }

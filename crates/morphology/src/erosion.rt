@@ -19,13 +19,20 @@ impl<P: Plate, K: Kind> Pass<'_, '_, P, K> {
             .fold(K::greatest(), |met, target| met.meet(self.picture[target]))
     }
 
+    // What a cell holds after the erosion.
+    fn eroded(&self, cell: usize) -> K
+        ensures { result ≡ eroded_at K.Kind.values (P.Plate.meaning self.now.plate.now) self.now.element self.now.picture.now cell }
+    {
+        self.met(cell)
+    }
+
     // Erodes the picture into another: each cell gathers from the cells that its steps reach.
     pub(crate) fn gather(&self, work: &mut [K])
         requires { length work.old ≡ (P.Plate.meaning self.now.plate.now).cells }
         ensures { work.new ≡ eroded K.Kind.values (P.Plate.meaning self.now.plate.now) self.now.element self.now.picture.now }
     {
         for (cell, value) in work.iter_mut().enumerate() {
-            *value = self.met(cell);
+            *value = self.eroded(cell);
         }
     }
 }

@@ -7,5 +7,11 @@ use kinds::Kind;
 pub fn area<K: Kind>(picture: &[K]) -> usize
     ensures { result ≡ area K.Kind.values picture.now }
 {
-    picture.iter().filter(|cell| cell.is_not_least()).count()
+    let mut count = 0;
+    for cell in picture {
+        if cell.is_not_least() {
+            count += 1;
+        }
+    }
+    count
 }

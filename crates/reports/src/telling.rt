@@ -16,6 +16,7 @@ use std::iter::once;
 use writers::{cell_line, counts, last_line, put_lines};
 
 // A record's move, its element, the answer and the area.
+#[inline(always)]
 pub fn done_line(item: Record) -> Line
     ensures { result ≡ done_line item }
 {

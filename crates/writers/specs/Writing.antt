@@ -1,5 +1,5 @@
 -- Writing a job: what is refused, and what the output holds afterwards. Assumes nothing.
-use Rattle.std.specs.Prelude.{◌≡◌, ℕ, ◌*◌, ◌≤◌, List, ◌++◌, map, length, drop, Ok, Err, Option, Result, ◌==◌, nat_le, slice_index_or}
+use Rattle.std.specs.Prelude.{◌≡◌, ℕ, ◌+◌, ◌*◌, ◌≤◌, List, ◌++◌, map, length, drop, Ok, Err, Option, Result, ◌==◌, nat_le, slice_index_or}
 use Rattle.std.specs.Iterator.{AlwaysYields}
 use Rattle.std.specs.List.{flat_map, slice_get}
 use Rattle.std.specs.Option.{option_map}
@@ -23,6 +23,10 @@ use Rattle.jobs.specs.declared.orders.Order.{Order}
 -- a word and natural numbers in the first fields; the others are blank
 abbrev pub counts : Word → List ℕ → Line
 counts word ns = row word (option_map Natural (slice_get ns 0)) (option_map Natural (slice_get ns 1)) (option_map Natural (slice_get ns 2)) (option_map Natural (slice_get ns 3))
+
+-- the place after a line that begins at a place
+abbrev pub place_after : ℕ → ℕ
+place_after at = at + 29
 
 -- some bytes with lines written over the first of them; a line has 29 bytes, and the others stay
 abbrev pub with_lines : List ℕ → List Line → List ℕ

@@ -11,6 +11,7 @@ use morphology::Record;
 use plans::Plan;
 
 // A word and natural numbers in the first fields; the others are blank.
+#[inline(always)]
 pub fn counts(word: Word, numbers: &[usize]) -> Line
     ensures { result ≡ counts word numbers.now }
 {
@@ -64,6 +65,7 @@ pub fn dead_line(cell: usize) -> Line
 }
 
 // Only a cell that is not least has a line.
+#[inline(always)]
 pub fn cell_line<K: WrittenKind>(cell: usize, value: K) -> Option<Line>
     ensures { result ≡ cell_entry K.Kind.values K.WrittenKind.written cell value }
 {

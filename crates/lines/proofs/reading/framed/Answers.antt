@@ -1,21 +1,29 @@
-use Rattle.std.proofs.Common.{◌≡◌, ℕ, zero, suc, ◌+◌, eqb, List, [], ◌∷◌, take, Some, rules, refl, ◌∙◌, arith, tests}
+use Rattle.std.proofs.Common.{◌≡◌, ℕ, zero, suc, ◌<◌, ◌≤◌, false, cond, eqb, List, [], ◌∷◌, length, get_or, take, sym, refl, arith}
 use Rattle.std.proofs.lemmas.Bool.Decides.{nat_tests}
-use Rattle.std.proofs.lemmas.Iterator.{YieldsList-from_slice, YieldsList-from_take}
-use Rattle.std.proofs.lemmas.Iterator.Adapters.{position_from-zero}
-use Rattle.std.proofs.lemmas.Iterator.Search.{position_from_yields_List}
-use Rattle.std.specs.List.{position_from}
-use Rattle.std.specs.Option.{option_eq}
+use Rattle.std.proofs.lemmas.List.{length-take}
+use Rattle.std.specs.List.{list_any}
 use Rattle.lines.specs.Lines.{feed_at}
 use Rattle.lines.proofs.reading.framed.Goals as goal
 
--- the first line feed, from k columns on
-feed_found : (i k n : ℕ) (bs : List ℕ) → n ≡ i + k → option_eq eqb (position_from (λ b. eqb b 10) i (take (suc k) bs)) (Some n) ≡ feed_at k bs
-feed_found i k n [] is = refl
-feed_found i zero n (b ∷ bs) is = grind (arith, nat_tests)
-feed_found i (suc k) n (b ∷ bs) is = grind (arith, nat_tests, feed_found (i + 1) k n bs)
+too_short : (k : ℕ) (bs : List ℕ) → length bs ≤ k → feed_at k bs ≡ false
+too_short k [] le = refl
+too_short zero (b ∷ bs) le = absurd (omega arith)
+too_short (suc k) (b ∷ bs) le = grind (arith, too_short k bs)
 
-pub returns-clause-is : goal.returns-clause-is
-returns-clause-is c =
-    let bs = c.args.bytes.now in
-    let first = position_from_yields_List (λ b. eqb b 10) _ _ c.position.result c.position.ensures.ran (YieldsList-from_take 29 (YieldsList-from_slice bs cc) cc) (λ x b q k. search (rules, tests)) ∙ position_from-zero _ (take 29 bs) in
-    grind (arith, feed_found 0 28 28 bs)
+-- the first k bytes have no line feed, and the one after them is one
+feed_last : (k : ℕ) (bs : List ℕ) → k < length bs → feed_at k bs ≡ cond (list_any (λ y. eqb y 10) (take k bs)) false (eqb (get_or bs k 0) 10)
+feed_last k [] lt = absurd (omega arith)
+feed_last zero (b ∷ bs) lt = refl
+feed_last (suc k) (b ∷ bs) lt = grind (arith, nat_tests, feed_last k bs)
+
+pub returns-then-bytes-lt29-clause-is : goal.returns-then-bytes-lt29-clause-is
+returns-then-bytes-lt29-clause-is c = sym (too_short 28 c.args.bytes.now (omega arith))
+
+pub slice_bounds-contains-end : goal.slice_bounds-contains-end
+slice_bounds-contains-end c = omega (arith, length-take 28 c.args.bytes.now)
+
+pub returns-then-not-contains-clause-is : goal.returns-then-not-contains-clause-is
+returns-then-not-contains-clause-is c = grind (arith, nat_tests, c.if-not-contains.true, c.contains.ensures.value, feed_last 28 c.args.bytes.now (omega arith))
+
+pub returns-else-not-contains-clause-is : goal.returns-else-not-contains-clause-is
+returns-else-not-contains-clause-is c = grind (arith, nat_tests, c.if-not-contains.false, c.contains.ensures.value, feed_last 28 c.args.bytes.now (omega arith))

@@ -1,8 +1,8 @@
 use Rattle.std.proofs.Common.{◌≡◌, ◌<◌, cond, length, ap, ◌∙◌, arith}
 use Rattle.std.proofs.lemmas.List.FromFn.{fill_by_all}
-use Rattle.std.proofs.lemmas.List.{get_or_read}
 use Rattle.plates.specs.Lists.{among}
 use Rattle.morphology.specs.Moves.{reached, dilated_at}
+use Rattle.morphology.specs.Pictures.{at}
 use Rattle.morphology.proofs.Passing.{joined_below, joined_more_cells}
 use Rattle.morphology.proofs.passes.Pass.scatter.Goals as goal
 
@@ -14,8 +14,8 @@ loop-cell-preserved g c x h =
     let a = c.args.self.now.picture.now in
     let i = c.loop-cell.cell in
     let lt : x < length c.loop-cell.work = omega arith in
-    c.spread.ensures x lt
-    ∙ (λ j. cond (among x (reached m e i)) (k.join (c.loop-cell.invariant x lt j) (get_or_read a i c.value-item.result c.loop-cell-test.true c.value-item.is k.least j)) (c.loop-cell.invariant x lt j))
+    c.spread_cell.ensures x lt
+    ∙ (λ j. cond (among x (reached m e i)) (k.join (c.loop-cell.invariant x lt j) (at k a i)) (c.loop-cell.invariant x lt j))
     ∙ joined_more_cells k m e a i x
 
 pub returns : goal.returns
